@@ -10,4 +10,5 @@ pub mod StepTaken
 pub mod ReadyFor
 pub mod InnermostLevel
 pub mod StepFacts
+pub mod StepLinks
 pub mod Ended

@@ -14,7 +14,16 @@ word_front words more place lt = ap (λ o. unwrap_or o (pos 0)) (slice_get-front
 pub word_left : (words : List ℤ) (n place : ℕ) → place < n → word_at (take n words) place ≡ word_at words place
 word_left words n place lt = ap (λ o. unwrap_or o (pos 0)) (slice_get-take n words place lt)
 
--- a number rises by one at most
+-- a number does not fall as one is added
+pub natural_kept : (x : ℤ) → natural x ≤ natural (x +ℤ pos 1)
+natural_kept x = subst (λ y. natural x ≤ natural y) (sym (+ℤ_one x)) (by x)
+  where
+    by : (y : ℤ) → natural y ≤ natural (suc_ℤ y)
+    by (pos n) = omega arith
+    by (negsuc zero) = omega arith
+    by (negsuc (suc n)) = omega arith
+
+-- and rises by one at most
 pub natural_risen : (x : ℤ) → natural (x +ℤ pos 1) ≤ natural x + 1
 natural_risen x = subst (λ y. natural y ≤ natural x + 1) (sym (+ℤ_one x)) (by x)
   where

@@ -11,6 +11,7 @@ use Rattle.rb_code.specs.WordMachine.Turn.{Copy, Standing}
 use Rattle.rb_code.specs.SoundCode.WellFormed.{ListsChannels}
 use Rattle.rb_code.specs.WordMachine.WordKind.{cursor_in}
 use Rattle.rb_proc.specs.Process.{Seen}
+use Rattle.rb_machine.specs.Rising.{NoneFalls}
 
 -- a copy has the held length and all cursors of its process
 abbrev pub HoldsCursors : Code → ℕ → Level Copy → Type 0
@@ -22,6 +23,10 @@ pub record AreNumbered (c : Code) (procs : List Seen) : Type 0 where
   pub numbers : Each (λ p (one : Seen). one.process.state.process ≡ p) procs
   pub lists : ListsChannels c
   pub copies : Each (λ p (one : Seen). Each (λ _ level. HoldsCursors c p level) one.process.levels) procs
+
+-- no cursor of a process is less than it was in one of its copies
+abbrev pub NoneFell : Code → List Seen → Type 0
+NoneFell c procs = Each (λ p (one : Seen). Each (λ _ level. NoneFalls c p level.copy.words one.process.state.words) one.process.levels) procs
 
 -- A process of the code in which the cursor of a channel stands, as in all its copies.
 pub record HasCursor (c : Code) (channel : ℕ) (one : Seen) : Type 0 where

@@ -18,6 +18,7 @@ use Rattle.rb_code.specs.WordMachine.Turn.{Copy, Standing, block_facts}
 use Rattle.rb_code.specs.SoundCode.WellFormed.{IsSound}
 use Rattle.rb_code.specs.WordMachine.WordRun.{WordWorld}
 use Rattle.rb_machine.specs.Linked.{AreLinked}
+use Rattle.rb_machine.specs.Rising.{NoneFalls}
 
 -- there are numbers of alternates of its conversations with which the code is sound
 abbrev pub IsSoundFor : Code → List Membership → Type 0
@@ -55,11 +56,19 @@ IsTalked counts d talk = (n : ℕ) → slice_get counts d ≡ Some n → (1 ≤ 
 abbrev pub CursorsBelow : Code → ℕ → ℕ → List ℤ → Type 0
 CursorsBelow c p t words = (channel : ℕ) → IsAmong channel (part_of c p).channels → natural (word_at words (cursor_place (part_of c p) channel)) < t
 
--- Of process number p no level has used as many turns as a number, and no cursor, in the present or in a copy, has come as far as another.
+-- No cursor of process number p falls from the copy of a level to that of a level inside it, nor to words that are later than all of them.
+pub record RiseInward (c : Code) (p : ℕ) (levels : List (Level Copy)) (words : List ℤ) : Type 0 where
+  pub inward : (i j : ℕ) (outer inner : Level Copy) → i < j → slice_get levels i ≡ Some outer → slice_get levels j ≡ Some inner
+      → NoneFalls c p outer.copy.words inner.copy.words
+  pub on : Each (λ _ level. NoneFalls c p level.copy.words words) levels
+
+-- Of process number p no level has used as many turns as a number, and no cursor, in the present or in a copy, has come as far as another;
+-- and none has fallen since a level was entered.
 pub record IsBelow (c : Code) (turns messages p : ℕ) (q : Process Standing Copy) : Type 0 where
   pub used : Each (λ _ level. level.used < turns) q.levels
   pub cursors : CursorsBelow c p messages q.state.words
   pub copied : Each (λ _ level. CursorsBelow c p messages level.copy.words) q.levels
+  pub rising : RiseInward c p q.levels q.state.words
 
 -- Before turn number t both lie below that number.
 abbrev pub IsCounted : Code → ℕ → ℕ → Process Standing Copy → Type 0

@@ -8,6 +8,8 @@ use Rattle.rb_world.specs.Turn.{turn}
 use Rattle.rb_code.specs.Instructions.Plain.{Code}
 use Rattle.rb_code.specs.WordMachine.WordKind.{word_kind}
 use Rattle.rb_code.specs.WordMachine.WordRun.{WordWorld}
+use Rattle.rb_machine.specs.declared.moves.Move.{Move}
+use Rattle.rb_machine.specs.declared.moves.Move.TheVariants as did
 use Rattle.rb_machine.specs.declared.rests.Rest.{Rest}
 
 -- a turn that was neither taken nor undone
@@ -16,6 +18,12 @@ is_still Idle = true
 is_still Wait = true
 is_still Took = false
 is_still Undone = false
+
+-- what a process does that waits, or is done
+abbrev pub waits_or_rests : Move → Bool
+waits_or_rests did.Waits = true
+waits_or_rests did.Rests = true
+waits_or_rests _ = false
 
 -- a process that has no level, if there is one
 abbrev pub IsBare : {S C : Type 0} → Option (Process S C) → Type 0

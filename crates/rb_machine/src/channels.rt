@@ -1,6 +1,6 @@
 //! Whether a channel has room for a message, and whether one is there.
 
-ghost use Rattle.std.specs.Prelude.{◌≡◌, ℕ, ◌+◌, ◌<◌, ◌≤◌, nat_lt, List, length, slice_get};
+ghost use Rattle.std.specs.Prelude.{◌≡◌, ℕ, ◌+◌, ◌<◌, ◌≤◌, nat_lt, List, length, slice_get, None};
 ghost use Rattle.rb_world.specs.Channels.{has_room, message_there, seen_copy};
 ghost use Rattle.rb_world.specs.Kind.{Membership};
 ghost use Rattle.rb_world.specs.World.{Talk, is_shared};
@@ -8,7 +8,7 @@ ghost use Rattle.rb_code.specs.Instructions.Plain.{code as plain};
 ghost use Rattle.rb_code.specs.SoundCode.Sound.{IsReceiver};
 ghost use Rattle.rb_code.specs.WordMachine.Turn.{Common};
 ghost use Rattle.rb_code.specs.WordMachine.WordKind.{word_kind};
-ghost use Rattle.rb_machine.specs.Channels.{AreNumbered, HasCursor, IsCopyAt, conversation_in, cursor_at, message_given, outermost_copy};
+ghost use Rattle.rb_machine.specs.Channels.{AreNumbered, HasCursor, IsCopyAt, NoneFell, conversation_in, cursor_at, message_given, outermost_copy};
 ghost use Rattle.rb_machine.specs.Worlds.{processes_of};
 
 pub mod looking;
@@ -49,7 +49,8 @@ pub fn has_room<L: Ledger>(
 }
 
 /// The number of the message that is there for process p, the receiver of a channel: that of its cursor, if more were sent than it has
-/// taken, up to the entry of the sender's first level that the two do not share. None is there if the code does not have the sender.
+/// taken, up to the entry of the sender's first level that the two do not share. None is there if the code does not have the sender. Where
+/// no more were sent by now than it has taken, none is seen either, whatever levels there are.
 pub fn message_there<L: Ledger>(
     code: &Code,
     procs: &[Proc<L>],
@@ -58,21 +59,27 @@ pub fn message_there<L: Ledger>(
     steps: &mut Steps<L>,
 ) -> Option<u64>
     requires numbered { AreNumbered (plain code.now) procs.now }
+    requires risen { NoneFell (plain code.now) procs.now }
     requires process { p < length procs.now }
     requires receiver { IsReceiver (slice_get (plain code.now).channels channel) p }
     ensures there { (groups : List Membership) (talks : List Talk) (memory : Common)
         → message_there (word_kind (plain code.now) groups)
         (record { processes = processes_of procs.now; talks = talks; memory = memory }) channel
         ≡ message_given (plain code.now) memory.slots channel result }
-    ensures ticks { steps.new ≤ steps.old + 2 }
+    ensures ticks { steps.new ≤ steps.old + 3 }
 {
-    let sender = code.channels[channel as usize].sender as usize;
-    if sender >= procs.len() {
+    let from = code.channels[channel as usize].sender as usize;
+    if from >= procs.len() {
         return None;
     }
+    let sender = &procs[from];
     let receiver = &procs[p as usize];
-    let seen = seen_count(code, &procs[sender], receiver, channel, steps);
     let taken = receiver.cursor(code, channel, steps);
+    let sent = sender.cursor(code, channel, steps);
+    if sent <= taken {
+        return None;
+    }
+    let seen = seen_count(code, sender, receiver, channel, sent, steps);
     (taken < seen).then_some(taken)
 }
 
@@ -112,21 +119,23 @@ fn conversation_at<L: Ledger>(proc: &Proc<L>, level: u32) -> Option<u32>
     }
 }
 
-// How many messages of a channel the receiver sees of the sender.
+// How many messages of a channel the receiver sees of the sender, which has sent so many by now.
 fn seen_count<L: Ledger>(
     code: &Code,
     sender: &Proc<L>,
     receiver: &Proc<L>,
     channel: u32,
+    sent: u64,
     steps: &mut Steps<L>,
 ) -> u64
     requires cursors { HasCursor (plain code.now) channel sender.now }
+    requires sent { sent ≡ cursor_at (plain code.now) channel sender.now.process None }
     ensures cursor { result
         ≡ cursor_at (plain code.now) channel sender.now.process (seen_copy sender.now.process.levels receiver.now.process.levels) }
     ensures ticks { steps.new ≤ steps.old + 1 }
 {
     match first_own_level(sender, receiver) {
-        None => sender.cursor(code, channel, steps),
+        None => sent,
         Some(level) => sender.cursor_then(code, channel, level, steps),
     }
 }

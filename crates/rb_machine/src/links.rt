@@ -100,20 +100,6 @@ impl Links {
         self.all = AllLinks::after(&self.all);
     }
 
-    /// The newest link goes.
-    #[cold]
-    #[inline(never)]
-    pub(crate) fn take_back(&mut self)
-        ensures items { (older : List Link) (link : Link) → self.old.items ≡ older ++ link ∷ [] → self.new.items ≡ older }
-        ensures held { self.new.held ≡ self.old.held }
-        ensures room { self.old.room ≤ self.new.room }
-    {
-        if self.held {
-            self.items.pop();
-        }
-        self.all = AllLinks::after(&self.all);
-    }
-
     /// All links, the newest last, if they are held.
     pub(crate) fn items(&self) -> Option<&[Link]>
         ensures { MatchOption result (self.now.held ≡ false) (λ links. links.now ≡ self.now.items) }

@@ -1,6 +1,6 @@
 //! The machine: a program's processes, channels and conversations, turn by turn.
 
-ghost use Rattle.std.specs.Prelude.{◌≡◌, ◌+◌, ◌-◌, ◌*◌, ◌<◌, ◌≤◌, ◌^◌, true, false, [], length, map, replicate, slice_get, sum_by, IfOk, Some};
+ghost use Rattle.std.specs.Prelude.{◌≡◌, ◌+◌, ◌-◌, ◌*◌, ◌<◌, ◌≤◌, ◌^◌, ◌&&◌, true, false, [], length, map, replicate, slice_get, sum_by, IfOk, Some};
 ghost use Rattle.rb_base.specs.declared.limits.TheConstants.{MOST_HELD_BYTES, MOST_PROCESSES_SECOND};
 ghost use Rattle.rb_code.specs.Instructions.Plain.{code as plain};
 ghost use Rattle.rb_code.specs.SoundCode.WellFormed.{IsSound};
@@ -17,6 +17,7 @@ ghost use Rattle.rb_machine.specs.Links.{HasRoom};
 ghost use Rattle.rb_machine.specs.Machine.{HasTurned, IsKeptEntry, IsOver, opening_seen};
 ghost use Rattle.rb_machine.specs.Moves.{AreAtWork, world};
 ghost use Rattle.rb_machine.specs.Reading.{line_stood_at};
+ghost use Rattle.rb_machine.specs.Resting.{is_still, waits_or_rests};
 ghost use Rattle.rb_machine.specs.Survivors.{word_survivors};
 ghost use Rattle.rb_machine.specs.Telling.{AreFreed, running_of};
 ghost use Rattle.rb_machine.specs.Work.{enters_there, turn_work};
@@ -27,7 +28,7 @@ mod looking;
 use crate::ends::end_turn;
 use crate::links::Links;
 use crate::loading::load_parts;
-use crate::moves::take_turn;
+use crate::moves::{Move, take_turn};
 use crate::parts::Parts;
 use crate::reading::{line_at, place_at, sent_on, state_at, taken_on, want_at, word_at};
 use crate::rests::{Resting, is_bare, is_still};
@@ -175,7 +176,7 @@ impl<'a, L: Ledger> Machine<'a, L> {
         ensures entry { IsKeptEntry self.old p → steps.new ≤ steps.old }
     {
         self.taken += 1;
-        let released = turn(
+        let left = turn(
             self.code,
             &mut self.parts,
             &mut self.running,
@@ -184,7 +185,8 @@ impl<'a, L: Ledger> Machine<'a, L> {
             report,
             steps,
         );
-        let quiet = is_still(report.kind);
+        let released = left.released;
+        let quiet = leaves_still(left.rests, report.kind);
         let still = quiet && is_bare(&self.parts.procs, p);
         if still {
             self.resting.note(p, self.taken, report.kind);
@@ -320,7 +322,14 @@ impl<'a, L: Ledger> Final for Machine<'a, L> {
     }
 }
 
-// Turn number `number` of process p, into the report. False where no released line waits.
+// How a turn has left the machine: whether released lines wait, and whether its process may rest, since it waited or was done.
+#[derive(Clone, Copy)]
+struct Left {
+    released: bool,
+    rests: bool,
+}
+
+// Turn number `number` of process p, into the report.
 #[inline(always)]
 fn turn<L: Ledger>(
     code: &Code,
@@ -330,7 +339,7 @@ fn turn<L: Ledger>(
     p: u32,
     report: &mut Report,
     steps: &mut Steps<L>,
-) -> bool
+) -> Left
     requires work { AreAtWork (plain code.now) number parts.old }
     requires running { running.old.items ≡ running_of (processes_of parts.old.procs.items) }
     requires room { HasRoom parts.old.links }
@@ -342,12 +351,30 @@ fn turn<L: Ledger>(
     ensures at_work { IsAtWork (plain code.now) (number + 1) parts.new.procs.items parts.new.table parts.new.mails parts.new.links.items }
     ensures running { running.new.items ≡ running_of (processes_of parts.new.procs.items) }
     ensures freed { AreFreed (processes_of parts.new.procs.items) }
-    ensures none_waits { result ≡ false → NoneWaits parts.new.procs.items }
+    ensures none_waits { result.released ≡ false → NoneWaits parts.new.procs.items }
     ensures room { parts.old.links.room ≤ parts.new.links.room + 1 }
     ensures work { steps.new ≤ steps.old + turn_work (plain code.now) (memberships parts.old.table) number p (world parts.old) }
     ensures entry { enters_there (plain code.now) report.new.kind (slice_get (processes_of parts.old.procs.items) p) ≡ true → steps.new ≤ steps.old }
 {
     report.events.clear();
     let moved = take_turn(code, parts, number, p, steps);
-    end_turn(code, parts, running, number, p, moved, report, steps)
+    let released = end_turn(code, parts, running, number, p, moved, report, steps);
+    let rests = may_rest(moved);
+    Left { released, rests }
+}
+
+// Whether a process that did this may rest from now on: it waits, or is done.
+#[inline(always)]
+fn may_rest(moved: Move) -> bool
+    ensures { result ≡ waits_or_rests moved }
+{
+    matches!(moved, Move::Waits | Move::Rests)
+}
+
+// Whether a turn whose process may rest changed nothing.
+#[inline(always)]
+fn leaves_still(rests: bool, kind: TurnKind) -> bool
+    ensures { result ≡ (rests && is_still kind) }
+{
+    rests && is_still(kind)
 }

@@ -13,7 +13,7 @@ ghost use Rattle.rb_conv.specs.Conversations.{memberships};
 ghost use Rattle.rb_proc.specs.Process.{Seen};
 ghost use Rattle.rb_proc.specs.Sees.{AreSized};
 ghost use Rattle.rb_machine.specs.AtWork.{MayAct};
-ghost use Rattle.rb_machine.specs.Channels.{AreNumbered};
+ghost use Rattle.rb_machine.specs.Channels.{AreNumbered, NoneFell};
 ghost use Rattle.rb_machine.specs.Ends.{LeadsTo, StaysOpen, links_yet, named_yet};
 ghost use Rattle.rb_machine.specs.Links.{HasRoom};
 ghost use Rattle.rb_machine.specs.Moves.{AreAtWork, IsEntryReady, IsReadyAt, MovesAt, ReceivesThere, WantsThere, world};
@@ -111,12 +111,13 @@ fn ready<L: Ledger>(
     steps: &mut Steps<L>,
 ) -> ReadyFor
     requires numbered { AreNumbered (plain code.now) procs.now }
+    requires risen { NoneFell (plain code.now) procs.now }
     requires process { p < length procs.now }
     requires receiver { ReceivesThere (plain code.now) procs.now p }
     requires wanted { WantsThere (plain code.now) procs.now p wanted }
     requires sized { AreSized (plain code.now) mails.now }
     ensures ready { IsReadyAt (plain code.now) procs.now mails.now p result }
-    ensures work { steps.new ≤ steps.old + 2 }
+    ensures work { steps.new ≤ steps.old + 3 }
     ensures entry { IsEntryReady result → steps.new ≤ steps.old }
 {
     match wanted {
@@ -172,12 +173,13 @@ fn receive<L: Ledger>(
     steps: &mut Steps<L>,
 ) -> ReadyFor
     requires numbered { AreNumbered (plain code.now) procs.now }
+    requires risen { NoneFell (plain code.now) procs.now }
     requires process { p < length procs.now }
     requires receiver { IsReceiver (slice_get (plain code.now).channels channel) p }
     requires wants { (one : Seen) → slice_get procs.now p ≡ Some one → want (plain code.now) one.process.state ≡ receipt waits channel }
     requires sized { AreSized (plain code.now) mails.now }
     ensures ready { IsReadyAt (plain code.now) procs.now mails.now p result }
-    ensures work { steps.new ≤ steps.old + 2 }
+    ensures work { steps.new ≤ steps.old + 3 }
 {
     match message_there(code, procs, p, channel, steps) {
         Some(number) => ReadyFor::Steps(Some(message_at(mails, channel, number))),

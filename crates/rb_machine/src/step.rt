@@ -27,8 +27,8 @@ use rb_mail::Mails;
 use rb_proc::{Outcome, Proc, Wanted};
 use std::sync::ledger::Ledger;
 
-// A process takes a step. The link of the turn, to the last kept turn before, is added first; a turn that goes on or whose test held is
-// kept, and a trap takes the link back.
+// A process takes a step. A turn that goes on or whose test held is kept, and the link of it, to the last kept turn before, is added; a
+// trap adds none.
 #[inline(always)]
 fn step_kept<L: Ledger>(
     code: &Code,
@@ -54,9 +54,9 @@ fn step_kept<L: Ledger>(
     ensures room { links.old.room ≤ links.new.room + 1 }
     ensures work { steps.new ≤ steps.old + 3 * named_in_step (plain code.now) proc.old.process mails.old message }
 {
-    links.note(proc, turn, p, wanted);
     match proc.step(code, mails, wanted, message, steps) {
         Outcome::Went => {
+            links.note(proc, turn, p, wanted);
             proc.keep(turn);
             if proc.is_quiet() {
                 Move::Went
@@ -65,13 +65,11 @@ fn step_kept<L: Ledger>(
             }
         }
         Outcome::Accepts => {
+            links.note(proc, turn, p, wanted);
             proc.keep(turn);
             Move::Accepts
         }
-        Outcome::Trap(cause) => {
-            links.take_back();
-            Move::Rejects(proc.levels(), cause)
-        }
+        Outcome::Trap(cause) => Move::Rejects(proc.levels(), cause),
     }
 }
 

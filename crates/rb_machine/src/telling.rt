@@ -280,6 +280,7 @@ pub fn release_all<L: Ledger>(procs: &mut [Proc<L>], steps: &mut Steps<L>)
 }
 
 /// Forgets the released lines of each process, and answers how many they were.
+#[inline(never)]
 pub fn drop_all_released<L: Ledger>(procs: &mut [Proc<L>]) -> u32
     requires few { length procs.old ≤ MOST_PROCESSES_SECOND }
     ensures count { result ≡ sum_by length (lines_of procs.old) }

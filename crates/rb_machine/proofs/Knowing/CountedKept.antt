@@ -1,5 +1,5 @@
--- Before turn number t every level has used fewer than t turns and every cursor is below t: an invariant, under one of each process by which
--- it has its number and stands in the table.
+-- Before turn number t every level has used fewer than t turns, every cursor is below t, and none has fallen since a level was entered: an
+-- invariant, under one of each process by which it has its number and stands in the table.
 use Rattle.std.proofs.Common.{◌≡◌, ℕ, ◌+◌, ℤ, Bool, true, false, cond, List, [], map, Option, refl, ap, sym, ◌∙◌, subst, arith}
 use Rattle.rb_cache.specs.Copies.{accepted}
 use Rattle.rb_world.specs.Kind.{Kind, Membership, Went, Held}
@@ -29,8 +29,8 @@ use Rattle.rb_code.proofs.Executing.StandsAgain.{opening_settles, settles_like, 
 use Rattle.rb_code.proofs.WholeRuns.ProcessesBegin.{zero_there}
 use Rattle.rb_meaning.specs.Environment.{natural}
 use Rattle.rb_machine.specs.Known.{CursorsBelow, IsBelow, IsCounted}
-use Rattle.rb_machine.specs.Rising.{RiseAfter}
-use Rattle.rb_machine.proofs.Knowing.CountsBelow.{back_below, cursors_same, entered_below, fallen_below, fallen_inside_below, freed_below, inside_below, left_below, moved_below, raised_below, used_below, weaker}
+use Rattle.rb_machine.specs.Rising.{NoneFalls, RiseAfter}
+use Rattle.rb_machine.proofs.Knowing.CountsBelow.{back_below, cursors_same, entered_below, fallen_below, fallen_inside_below, freed_below, inside_below, left_below, moved_below, none_falls, none_rises, raised_below, same_falls, used_below, weaker}
 use Rattle.rb_machine.proofs.Beginning.FirstProcesses.{opens_at}
 use Rattle.rb_machine.proofs.Knowing.RunsRise.{run_step_rises}
 use Rattle.rb_machine.proofs.Knowing.StepsRise.{settle_keeps}
@@ -46,6 +46,12 @@ module _ (c : Code) (groups : List Membership) (table : Table) (has : HasTable c
       subst (λ n. CursorsBelow c n messages (settle c (copy_of (last_of levels)) s).words) number
       (cursors_same c s.process messages s.words (settle c (copy_of (last_of levels)) s).words
       (settle_keeps c groups table has lists s levels settles) (subst (λ n. CursorsBelow c n messages s.words) (sym number) h))
+
+  settling_on : (p : ℕ) (s : Standing) (levels : List (Level Copy)) → s.process ≡ p → Settles c table s levels
+      → NoneFalls c p s.words (settle c (copy_of (last_of levels)) s).words
+  settling_on p s levels number settles =
+      subst (λ n. NoneFalls c n s.words (settle c (copy_of (last_of levels)) s).words) number
+      (same_falls c s.process s.words (settle c (copy_of (last_of levels)) s).words (settle_keeps c groups table has lists s levels settles))
 
   -- a world serves a step
   served : (q : Process Standing Copy) (w : WordWorld) (message : Option ℤ) → IsReady Words q w message → ServedBut (want c q.state) message
@@ -85,19 +91,26 @@ module _ (c : Code) (groups : List Membership) (table : Table) (has : HasTable c
         let rise : RiseAfter c q.state (Went s m) = subst (RiseAfter c q.state) e step_rises in
         moved_below c groups (n + 1) (n + 1) p (settle c (copy_of (last_of q.levels)) kept) false
         (status_at (want c (settle c (copy_of (last_of q.levels)) kept))) q
-        (subst (λ (x : Standing). CursorsBelow c p (n + 1) x.words) (sym same) (risen rise)) later
+        (subst (λ (x : Standing). CursorsBelow c p (n + 1) x.words) (sym same) (risen rise))
+        (subst (λ (x : Standing). NoneFalls c p q.state.words x.words) (sym same) (onward rise)) later
       where
         risen : RiseAfter c q.state (Went s m) → CursorsBelow c p (n + 1) s.words
         risen rise = subst (λ i. CursorsBelow c i (n + 1) s.words) number
-            (λ channel among. omega (arith, rise channel among, subst (λ i. CursorsBelow c i n q.state.words) (sym number) h.cursors channel among))
+            (λ channel among. omega (arith, rise.0 channel among, subst (λ i. CursorsBelow c i n q.state.words) (sym number) h.cursors channel among))
+
+        onward : RiseAfter c q.state (Went s m) → NoneFalls c p q.state.words s.words
+        onward rise = subst (λ i. NoneFalls c i q.state.words s.words) number rise.1
 
     -- its acceptance test held
     module _ (s : Standing) (e : step c alternate (copy_of (last_of q.levels)) q.state message w.memory ≡ Held s) where
       same_words : CursorsBelow c p (n + 1) s.words
       same_words = subst (CursorsBelow c p (n + 1)) (sym (subst (RiseAfter c q.state) e step_rises)) later.cursors
 
+      onward : NoneFalls c p q.state.words s.words
+      onward = subst (NoneFalls c p q.state.words) (sym (subst (RiseAfter c q.state) e step_rises)) (λ channel among. omega arith)
+
       stood : IsBelow c (n + 1) (n + 1) p (stands_now (record s { last_kept = n }) q.levels)
-      stood = moved_below c groups (n + 1) (n + 1) p (record s { last_kept = n }) true Running q same_words later
+      stood = moved_below c groups (n + 1) (n + 1) p (record s { last_kept = n }) true Running q same_words onward later
 
       accepted_below : IsBelow c (n + 1) (n + 1) p (settled Words (record s { last_kept = n; touched = accepted s.touched }) (without_last q.levels))
       accepted_below =
@@ -107,8 +120,10 @@ module _ (c : Code) (groups : List Membership) (table : Table) (has : HasTable c
           settles_like c table (record s { touched = accepted s.touched }) (without_last q.levels) (without_last q.levels) s.words n s.held
           (accepted s.touched) refl refl refl after.1 in
           let state : Standing = settle c (copy_of (last_of (without_last q.levels))) kept in
+          let own : kept.process ≡ p = ap (λ (x : Standing). x.process) after.0 ∙ number in
           left_below c groups (n + 1) (n + 1) p state false (status_at (want c state)) q
-          (settled_cursors p (n + 1) kept (without_last q.levels) (ap (λ (x : Standing). x.process) after.0 ∙ number) settles same_words) later
+          (settled_cursors p (n + 1) kept (without_last q.levels) own settles same_words)
+          (none_falls c p q.state.words s.words state.words onward (settling_on p kept (without_last q.levels) own settles)) later
 
   -- who stands at a test line leaves it
   leaves_below : (turns messages p d : ℕ) (q : Process Standing Copy) → q.state.process ≡ p → ProcessStands c table q → IsBelow c turns messages p q
@@ -117,11 +132,7 @@ module _ (c : Code) (groups : List Membership) (table : Table) (has : HasTable c
   leaves_below turns messages p d q number stands h false e = h
   leaves_below turns messages p d q number stands h true e =
       left_below c groups turns messages p state false (status_at (want c state)) q
-      (settled_cursors p messages left (without_last q.levels) number
-      (by q.status
-      (subst (λ line. StandsNow c table q.status line q.state q.levels)
-      (first_holds q.at_line (is_last_of d (last_of q.levels)) e) stands.now))
-      h.cursors) h
+      (settled_cursors p messages left (without_last q.levels) number settles h.cursors) (settling_on p left (without_last q.levels) number settles) h
     where
       left : Standing
       left = record q.state { touched = accepted q.state.touched }
@@ -136,6 +147,12 @@ module _ (c : Code) (groups : List Membership) (table : Table) (has : HasTable c
       by Running k = k
       by Finished k = k
       by (FailedWith cause) k = absurd (true_false k)
+
+      settles : Settles c table left (without_last q.levels)
+      settles =
+          by q.status
+          (subst (λ line. StandsNow c table q.status line q.state q.levels)
+          (first_holds q.at_line (is_last_of d (last_of q.levels)) e) stands.now)
 
   -- under an invariant by which each process has its number and stands
   module _ (P : ℕ → Process Standing Copy → Type 0)
@@ -252,4 +269,5 @@ module _ (c : Code) (groups : List Membership) (table : Table) (has : HasTable c
         used = λ i level none. absurd (none_some none);
         cursors = settled_cursors r 1 (opening_standing r h.0) [] refl (opening_settles c table groups has r h.0 h.1) (zero_below r h.0);
         copied = λ i level none. absurd (none_some none);
+        rising = none_rises c r (settle c (copy_of (last_of [])) (opening_standing r h.0)).words;
       }))

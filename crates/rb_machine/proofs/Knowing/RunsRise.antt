@@ -1,4 +1,4 @@
--- A step of a run raises each cursor by at most one, whatever alternate it is given.
+-- A step of a run raises each cursor by at most one and lowers none, whatever alternate it is given.
 use Rattle.std.proofs.Common.{◌≡◌, ◌⊎◌, inl, inr, ℕ, zero, suc, ◌+◌, ◌<◌, ℤ, List, [], slice_get, Option, Some, None, refl, ap, sym, subst, arith}
 use Rattle.rb_base.specs.declared.event.Cause.TheVariants.{Fail as FailCause}
 use Rattle.rb_world.specs.Kind.{Membership}

@@ -1,4 +1,4 @@
--- A step of a process that stands raises each cursor by at most one, and settling raises none.
+-- A step of a process that stands raises each cursor by at most one, and lowers none; settling leaves each as it is.
 use Rattle.std.proofs.Common.{◌≡◌, ℕ, ◌+◌, ◌≤◌, ℤ, pos, ◌+ℤ◌, List, [], slice_get, Option, Some, None, refl, ap, sym, subst, arith}
 use Rattle.rb_world.specs.Kind.{Membership}
 use Rattle.rb_world.specs.World.{Level, copy_of, last_of}
@@ -18,7 +18,7 @@ use Rattle.rb_code.proofs.Executing.Staying.{settling_fits}
 use Rattle.rb_code.proofs.Executing.Weaker.{rank}
 use Rattle.rb_machine.specs.Rising.{RiseAfter, SoundSettlingKeeps, SoundStepsRaise, StaySame}
 use Rattle.rb_machine.proofs.Knowing.Rising.{KnownIn, comes_known}
-use Rattle.rb_machine.proofs.WordsKept.{natural_risen}
+use Rattle.rb_machine.proofs.WordsKept.{natural_kept, natural_risen}
 
 module _ (c : Code) (groups : List Membership) (t : Table) (has : HasTable c groups t) (lists : ListsChannels c) where
   -- a step of a process at a `turn`, where the instruction behind it gets what it asks for
@@ -28,15 +28,19 @@ module _ (c : Code) (groups : List Membership) (t : Table) (has : HasTable c gro
     abbrev see : Sight
     see = sight s alternate (copy_of (last_of levels)) message
 
-    -- at most one above the cursor of the beginning
+    -- the cursor of the beginning, or one more
     abbrev AtMostOneMore : ℕ → ℤ → Type 0
-    AtMostOneMore channel x = natural x ≤ natural (word_at s.words (cursor_place (part_of c s.process) channel)) + 1
+    AtMostOneMore channel x =
+        (natural x ≤ natural (word_at s.words (cursor_place (part_of c s.process) channel)) + 1)
+        × (natural (word_at s.words (cursor_place (part_of c s.process) channel)) ≤ natural x)
 
     one_more : (m : Workspace) → m.words ≡ s.words → (channel : ℕ) → IsAmong channel (part_of c s.process).channels
         → AtMostOneMore channel (word_at m.words (cursor_place (part_of c s.process) channel) +ℤ pos 1)
     one_more m same channel among =
-        subst (λ ws. AtMostOneMore channel (word_at ws (cursor_place (part_of c s.process) channel) +ℤ pos 1)) (sym same)
-        (natural_risen (word_at s.words (cursor_place (part_of c s.process) channel)))
+        subst (λ ws. AtMostOneMore channel (word_at ws (cursor_place (part_of c s.process) channel) +ℤ pos 1)) (sym same) (
+          natural_risen (word_at s.words (cursor_place (part_of c s.process) channel)),
+          natural_kept (word_at s.words (cursor_place (part_of c s.process) channel)),
+        )
 
     step_known : (memory : Common)
         → KnownIn c see AtMostOneMore (execute c see (most_steps c) (s.at + 1) [] (memory_of s memory.slots))
@@ -45,7 +49,7 @@ module _ (c : Code) (groups : List Membership) (t : Table) (has : HasTable c gro
         let x = standing.behind c groups t has lists s levels stands turn memory.slots see refl is_met in
         comes_known c groups t see (inside_out levels) (λ later. later.words ≡ s.words) (λ later pieces counters k. k) has lists
         stands.exists (former_is levels) AtMostOneMore one_more (s.at + 1) x.entry [] m x.there x.fits (λ k. refl)
-        (λ channel among. omega arith)
+        (λ channel among. (omega arith, omega arith))
 
     pub step_rises : (memory : Common) → RiseAfter c s (step c alternate (copy_of (last_of levels)) s message memory)
     step_rises memory =
@@ -53,7 +57,7 @@ module _ (c : Code) (groups : List Membership) (t : Table) (has : HasTable c gro
         (standing.step_stands c groups t has lists s levels stands turn alternate message is_met memory)
       where
         by : (o : Outcome) → KnownIn c see AtMostOneMore o → StandsAfter c t s levels (came_to s memory o) → RiseAfter c s (came_to s memory o)
-        by (Stopped at later) known after = known
+        by (Stopped at later) known after = (λ channel among. (known channel among).0, λ channel among. (known channel among).1)
         by (Accepts at later) known after = ap (λ (x : Standing). x.words) after.0
         by (Trap cause) known after = tt
         by (Going at xs later) known after = tt

@@ -14,7 +14,7 @@ use Rattle.rb_code.specs.WordMachine.WordKind.{cursor_in, word_kind}
 use Rattle.rb_conv.specs.Conversations.{Conversation}
 use Rattle.rb_proc.specs.Process.{Seen}
 use Rattle.rb_machine.specs.AtWork.{IsAtWork}
-use Rattle.rb_machine.specs.Channels.{AreNumbered, cursor_at, outermost_copy}
+use Rattle.rb_machine.specs.Channels.{AreNumbered, NoneFell, cursor_at, outermost_copy}
 use Rattle.rb_machine.specs.Known.{CursorsBelow}
 use Rattle.rb_machine.specs.Looking.{CopiesBelow, IsViewBetween, IsViewOn}
 use Rattle.rb_machine.specs.Reading.{AreCounted}
@@ -93,3 +93,8 @@ pub copies_at_work : (c : Code) (t : ℕ) (procs : List Seen) (table : List Conv
 copies_at_work c t procs table slots links work p one there k level found channel among =
     let below = (work.known.counted p one.process (process_there procs p one there)).copied k level found channel among in
     omega (arith, below, work.turns)
+
+-- and none is greater than in the present
+pub none_fell : (c : Code) (t : ℕ) (procs : List Seen) (table : List Conversation) (slots : Slots) (links : List Link)
+    → IsAtWork c t procs table slots links → NoneFell c procs
+none_fell c t procs table slots links work p one there = (work.known.counted p one.process (process_there procs p one there)).rising.on

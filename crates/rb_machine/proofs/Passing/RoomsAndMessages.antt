@@ -1,6 +1,7 @@
 -- Rooms and messages of a world, told by the cursors of the two ends of a channel.
-use Rattle.std.proofs.Common.{◌≡◌, ℕ, ◌+◌, ◌<◌, nat_lt, Bool, true, false, cond, ℤ, List, [], ◌∷◌, length, map, option_map, slice_get, get_or, Option, Some, None, refl, ap, sym, subst, ◌∙◌, eq-eqb, arith}
+use Rattle.std.proofs.Common.{◌≡◌, ℕ, ◌+◌, ◌<◌, ◌≤◌, nat_lt, Bool, true, false, cond, ℤ, List, [], ◌∷◌, length, map, option_map, slice_get, get_or, Option, Some, None, refl, ap, sym, subst, ◌∙◌, eq-eqb, arith}
 use Rattle.std.specs.Bool.{then_some}
+use Rattle.std.proofs.lemmas.Bool.{le-ltb}
 use Rattle.std.proofs.lemmas.Option.{slice_get-map, slice_get_within}
 use Rattle.rb_world.specs.Channels.{has_room, has_room_for, has_room_on, room_from}
 use Rattle.rb_world.specs.Channels.{message_between, message_on, message_there, seen_copy, seen_count, seen_message}
@@ -21,8 +22,10 @@ use Rattle.rb_code.specs.WordMachine.Turn.{Common, Copy, Standing}
 use Rattle.rb_code.specs.WordMachine.WordKind.{cursor_in, sent_by, taken_by, word_kind}
 use Rattle.rb_code.proofs.InWords.Channels.{receives, sends}
 use Rattle.rb_proc.specs.Process.{Seen}
-use Rattle.rb_machine.specs.Channels.{AreNumbered, HasCursor, HoldsCursors, cursor_at, outermost_copy, words_then}
+use Rattle.rb_machine.specs.Channels.{AreNumbered, HasCursor, HoldsCursors, NoneFell, cursor_at, outermost_copy, words_then}
+use Rattle.rb_machine.specs.Rising.{NoneFalls}
 use Rattle.rb_machine.specs.Worlds.{processes_of}
+use Rattle.rb_machine.proofs.Passing.SeenCopies.{seen_is_sent}
 
 -- equal numbers are compared alike
 pub compared : {A : Type 0} (f : ℕ → ℕ → A) (m n k l : ℕ) → m ≡ k → n ≡ l → f m n ≡ f k l
@@ -169,3 +172,18 @@ module _ (c : Code) (groups : List Membership) where
         subst (λ n. MessageIs n seen) (sym taken_is)
         (subst (MessageIs (cursor_at c channel r.process None)) (sym seen_is)
         (message_seen (subst (λ n. slice_get procs n ≡ Some r) (sym own) at)))
+
+    -- where no more were sent than it has taken, none is there
+    pub none_there : NoneFell c procs → (p taken sent : ℕ) → IsReceiver (slice_get c.channels channel) p → slice_get procs p ≡ Some r
+        → taken ≡ cursor_at c channel r.process None → sent ≡ cursor_at c channel q.process None → sent ≤ taken
+        → message_there (word_kind c groups) (record { processes = processes_of procs; talks = talks; memory = memory }) channel ≡ None
+    none_there risen p taken sent is at taken_is sent_is few =
+        let seen = cursor_at c channel q.process (seen_copy q.process.levels r.process.levels) in
+        let number = numbered.numbers ends.sender q sender in
+        let among = (sender_has_cursor c procs numbered channel ends q there sender).among in
+        let less : seen ≤ cursor_at c channel q.process None =
+        seen_is_sent c q.process.state.process channel q.process.state.words q.process.levels r.process.levels among
+        (subst (λ n. Each (λ _ level. NoneFalls c n level.copy.words q.process.state.words) q.process.levels) (sym number)
+        (risen ends.sender q sender)) in
+        message_is p taken seen is at taken_is refl
+        ∙ ap (λ b. cond b (Some (slot_of c.channels memory.slots channel taken)) None) (le-ltb taken seen (omega (arith, less, few, sent_is)))

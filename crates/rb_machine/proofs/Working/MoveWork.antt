@@ -85,13 +85,13 @@ module _ (c : Code) (groups : List Membership) (t p : ℕ) (q : Process Standing
   step_names answer e (inr step) = subst (NamesBy None) (sym (is_step (want c q.state) (e ∙ step))) refl
 
 -- ticks of looking and of the words that are named add up
-pub pays_waiting : (old now look names : ℕ) → now ≤ old + 2 → look ≡ 4 → now + 3 * 0 ≤ old + look + 3 * names
+pub pays_waiting : (old now look names : ℕ) → now ≤ old + 3 → look ≡ 4 → now + 3 * 0 ≤ old + look + 3 * names
 pays_waiting old now look names ready e = omega (arith, ready, e)
 
 pub pays_entry : (old now look names : ℕ) → now ≤ old → now + 3 * 0 ≤ old + look + 3 * names
 pays_entry old now look names entry = omega (arith, entry)
 
-pub pays_step : (old now done later look names same : ℕ) → now ≤ old + 2 → done + 3 * later ≤ now + 3 * same → look ≡ 4 → names ≡ same
+pub pays_step : (old now done later look names same : ℕ) → now ≤ old + 3 → done + 3 * later ≤ now + 3 * same → look ≡ 4 → names ≡ same
     → done + 3 * later ≤ old + look + 3 * names
 pays_step old now done later look names same ready work e is = omega (arith, ready, work, e, is)
 

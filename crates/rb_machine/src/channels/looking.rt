@@ -41,7 +41,7 @@ pub fn view_at<L: Ledger>(
     let receiver = &procs[ends.receiver as usize];
     let sent = sender.cursor(code, channel, steps);
     let taken = receiver.cursor(code, channel, steps);
-    let seen = seen_count(code, sender, receiver, channel, steps);
+    let seen = seen_count(code, sender, receiver, channel, sent, steps);
     let from = room_from(code, receiver, channel, steps);
     let free = room_left(sent, from, ends.size);
     ChannelView {

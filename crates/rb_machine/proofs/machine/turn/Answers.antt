@@ -11,8 +11,8 @@ use Rattle.rb_machine.specs.Worlds.{lines_of}
 use Rattle.rb_machine.proofs.Working.TurnWork.{entry_adds_nothing, turn_costs}
 use Rattle.rb_machine.proofs.machine.turn.Goals as goal
 
-pub end_turn-requires-clause-way : goal.end_turn-requires-clause-way
-end_turn-requires-clause-way g c = record {
+pub end_turn-released-requires-clause-way : goal.end_turn-released-requires-clause-way
+end_turn-released-requires-clause-way g c = record {
   before = c.args.parts.now;
   way = record {
     work = c.requires.work;
@@ -43,10 +43,10 @@ returns g c =
       ran = moved.ensures.ran;
       leads = moved.ensures.leads;
     } in
-    let ended = c.end_turn.ensures.ended parts way in
-    let work : c.end_turn.new.steps ≤ c.args.steps.now + turn_work code (memberships parts.table) c.args.number c.args.p (world parts) =
-    turn_costs code (memberships parts.table) c.args.number c.args.p (world parts) (lines_of c.end_turn.new.parts.procs.items) c.args.steps.now _
-    c.end_turn.new.steps (at_most _) (ap (λ (pair : WordWorld × Told). pair.1.released) ended.turned.turned)
+    let ended = c.end_turn-released.ensures.ended parts way in
+    let work : c.end_turn-released.new.steps ≤ c.args.steps.now + turn_work code (memberships parts.table) c.args.number c.args.p (world parts) =
+    turn_costs code (memberships parts.table) c.args.number c.args.p (world parts) (lines_of c.end_turn-released.new.parts.procs.items) c.args.steps.now _
+    c.end_turn-released.new.steps (at_most _) (ap (λ (pair : WordWorld × Told). pair.1.released) ended.turned.turned)
     (omega (arith, ended.work, moved.ensures.work)) in
     record {
       turned = ended.turned.turned;
@@ -55,9 +55,9 @@ returns g c =
       running = ended.turned.running_is;
       freed = ended.turned.freed;
       none_waits = ended.turned.none_waits;
-      room = omega (arith, c.end_turn.ensures.room, moved.ensures.room);
+      room = omega (arith, c.end_turn-released.ensures.room, moved.ensures.room);
       work = work;
       entry =
-          λ e. entry_adds_nothing code (memberships parts.table) c.args.number c.args.p (world parts) c.end_turn.new.report.kind _ _ c.requires.freed
+          λ e. entry_adds_nothing code (memberships parts.table) c.args.number c.args.p (world parts) c.end_turn-released.new.report.kind _ _ c.requires.freed
           (ap (λ (pair : WordWorld × Told). pair.1.kind) ended.turned.turned) e work;
     }

@@ -4,13 +4,14 @@ use Rattle.rb_world.specs.Turn.{Moved}
 use Rattle.rb_code.specs.Instructions.Plain.{code as plain}
 use Rattle.rb_code.specs.WordMachine.Turn.{Common, Copy, Standing}
 use Rattle.rb_proc.specs.Process.{Seen}
-use Rattle.rb_machine.specs.Channels.{AreNumbered}
+use Rattle.rb_machine.specs.Channels.{AreNumbered, NoneFell}
 use Rattle.rb_machine.specs.Moves.{IsEntryReady, IsReadyAt, ReceivesThere, WantsThere}
 use Rattle.rb_machine.specs.Work.{is_kept}
 use Rattle.rb_machine.specs.Worlds.{memory_of, processes_of}
 use Rattle.rb_machine.proofs.Turning.Ended.{leads_as}
 use Rattle.rb_machine.proofs.Working.MoveWork.{looks_stepping, looks_unkept, pays_entry, pays_step, pays_waiting}
 use Rattle.rb_machine.proofs.Knowing.KnownNumbers.{numbered_at_work}
+use Rattle.rb_machine.proofs.Passing.ChannelsLooked.{none_fell}
 use Rattle.rb_machine.proofs.Turning.ReadyFor.{next_read, receives_there, wants_read}
 use Rattle.rb_machine.proofs.moves.act.Goals as goal
 
@@ -26,6 +27,13 @@ ready-requires-clause-numbered g c =
     let parts = c.args.parts.now in
     subst (AreNumbered code) (sym c.deref.ensures.value)
     (numbered_at_work code (c.args.turn + 1) parts.procs.items parts.table parts.mails parts.links.items c.requires.work.work)
+
+pub ready-requires-clause-risen : goal.ready-requires-clause-risen
+ready-requires-clause-risen g c =
+    let code = plain c.args.code.now in
+    let parts = c.args.parts.now in
+    subst (NoneFell code) (sym c.deref.ensures.value)
+    (none_fell code (c.args.turn + 1) parts.procs.items parts.table parts.mails parts.links.items c.requires.work.work)
 
 pub ready-requires-clause-receiver : goal.ready-requires-clause-receiver
 ready-requires-clause-receiver g c =

@@ -1,6 +1,9 @@
 -- What each outcome of the step leaves.
-use Rattle.std.proofs.Common.{ℕ, List, ap, ◌∙◌}
+use Rattle.std.proofs.Common.{ℕ, List, [], ◌∷◌, ◌++◌, ap, ◌∙◌}
+use Rattle.rb_code.specs.Instructions.Plain.{code as plain}
 use Rattle.rb_machine.specs.Stepping.{turn_kept}
+use Rattle.rb_machine.specs.declared.links.Link.{Link}
+use Rattle.rb_machine.proofs.Turning.StepLinks.{held_link, went_link}
 use Rattle.rb_machine.proofs.step.step_kept.Goals as goal
 
 pub returns-then-is_quiet-clause-done : goal.returns-then-is_quiet-clause-done
@@ -38,13 +41,22 @@ returns-in-Trap-clause-done g c =
     (c.in-Trap.ensures.came, c.step.ensures.waiting ∙ c.requires.may.none_waits, c.levels.ensures)
 
 pub returns-then-is_quiet-clause-links : goal.returns-then-is_quiet-clause-links
-returns-then-is_quiet-clause-links g c = c.note.ensures.items
+returns-then-is_quiet-clause-links g c =
+    c.note.ensures.items
+    ∙ ap (λ (link : Link). c.args.links.now.items ++ link ∷ [])
+    (went_link c.args.turn c.args.p c.args.wanted (plain c.args.code.now) c.args.proc.now.process c.args.mails.now c.args.message
+    c.step.new.self.process c.step.new.mails c.in-Went.ensures.came)
 
 pub returns-else-is_quiet-clause-links : goal.returns-else-is_quiet-clause-links
-returns-else-is_quiet-clause-links g c = c.note.ensures.items
+returns-else-is_quiet-clause-links g c =
+    c.note.ensures.items
+    ∙ ap (λ (link : Link). c.args.links.now.items ++ link ∷ [])
+    (went_link c.args.turn c.args.p c.args.wanted (plain c.args.code.now) c.args.proc.now.process c.args.mails.now c.args.message
+    c.step.new.self.process c.step.new.mails c.in-Went.ensures.came)
 
 pub returns-in-Accepts-clause-links : goal.returns-in-Accepts-clause-links
-returns-in-Accepts-clause-links g c = c.note.ensures.items
-
-pub returns-in-Trap-clause-links : goal.returns-in-Trap-clause-links
-returns-in-Trap-clause-links g c = c.take_back.ensures.items c.args.links.now.items _ c.note.ensures.items
+returns-in-Accepts-clause-links g c =
+    c.note-in-Accepts.ensures.items
+    ∙ ap (λ (link : Link). c.args.links.now.items ++ link ∷ [])
+    (held_link c.args.turn c.args.p c.args.wanted (plain c.args.code.now) c.args.proc.now.process c.args.mails.now c.args.message
+    c.step.new.self.process c.step.new.mails c.in-Accepts.ensures.came)

@@ -46,16 +46,14 @@ cursor-taken-requires g c =
       length-map c.args.code.now.processes.items part,
     )
 
-pub seen_count-seen-requires : goal.seen_count-seen-requires
-seen_count-seen-requires g c =
+pub seen_count-seen-requires-clause-cursors : goal.seen_count-seen-requires-clause-cursors
+seen_count-seen-requires-clause-cursors g c =
     let code = plain c.args.code.now in
     let one = c.index-ends.result.now in
     let at = channel_there c.args.code.now c.args.channel one c.requires.channel c.index-ends.ensures in
     let there = (sender_counts code c.args.procs.now c.requires.counted c.args.channel (ends_of one) at).there in
     let sender = got c.args.procs.now one.sender c.index-procs-ends.result there c.index-procs-ends.is in
-    record {
-      cursors = sender_has_cursor code c.args.procs.now c.requires.counted.numbered c.args.channel (ends_of one) c.index-procs-ends.result at sender;
-    }
+    sender_has_cursor code c.args.procs.now c.requires.counted.numbered c.args.channel (ends_of one) c.index-procs-ends.result at sender
 
 pub room_from-from-requires : goal.room_from-from-requires
 room_from-from-requires g c =

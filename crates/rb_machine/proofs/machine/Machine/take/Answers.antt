@@ -2,6 +2,7 @@
 use Rattle.std.proofs.Common.{◌≡◌, ℕ, ◌+◌, ◌≤◌, true, List, length, set, slice_get, refl, ap, sym, ◌∙◌, subst, arith}
 use Rattle.rb_world.specs.Kind.{Membership}
 use Rattle.rb_world.specs.Turn.{Told}
+use Rattle.rb_world.proofs.ListFacts.{second_holds}
 use Rattle.rb_code.specs.Instructions.Plain.{code as plain}
 use Rattle.rb_code.specs.WordMachine.WordKind.{word_kind}
 use Rattle.rb_code.specs.WordMachine.WordRun.{WordWorld}
@@ -22,8 +23,8 @@ use Rattle.rb_machine.proofs.Unmoved.Tallied.{forgotten_after, tallied_after}
 use Rattle.rb_machine.proofs.machine.Machine.take.Goals as goal
 use Rattle.rb_machine.proofs.machine.Machine.take.Goals.{else-quiet, else-released, then-quiet, then-released}
 
-pub turn-released-requires-clause-work : goal.turn-released-requires-clause-work
-turn-released-requires-clause-work g c = record {
+pub turn-left-requires-clause-work : goal.turn-left-requires-clause-work
+turn-left-requires-clause-work g c = record {
   work = c.self.invariant.work;
   waits = none_wait c.self.inside.parts.procs.items (length c.args.self.now.world.processes)
       (ap (λ (machine : Seen). machine.waiting) c.self.view_is ∙ c.requires.waits);
@@ -34,7 +35,7 @@ invariant_of-self g c =
     let inside = c.self.inside in
     let code = plain inside.code.now in
     let groups : List Membership = memberships inside.parts.table in
-    let turned = c.turn-released in
+    let turned = c.turn-left in
     let after = turned.new.parts in
     let kind = turned.new.report.kind in
     let told : Told = told_of kind turned.new.report.events.items (lines_of after.procs.items) in
@@ -46,7 +47,7 @@ invariant_of-self g c =
       | then-quiet w ↦ (
         subst (λ (procs : List Process). IsBare (slice_get (processes_of procs) c.args.p)) w.deref.ensures.value
             (w.is_bare-still.ensures (sym w.still-is ∙ c.if-still.true)),
-        sym c.is_still-quiet.ensures ∙ w.if-quiet.true,
+        second_holds c.turn-left.result.rests (is_still kind) (sym c.leaves_still-quiet.ensures ∙ w.if-quiet.true),
       )
       | else-quiet w ↦ absurd (cc)
     ] in
@@ -100,7 +101,7 @@ invariant_of-self-else-still g c =
     let inside = c.self.inside in
     let code = plain inside.code.now in
     let groups : List Membership = memberships inside.parts.table in
-    let turned = c.turn-released in
+    let turned = c.turn-left in
     let after = turned.new.parts in
     let as_many : length (world inside.parts).processes ≡ length (world after).processes =
     sym (turn-processes (word_kind code groups) (inside.taken + 1) c.args.p (world inside.parts))
@@ -146,31 +147,31 @@ invariant_of-self-else-still g c =
 pub returns-after-released-clause-work : goal.returns-after-released-clause-work
 returns-after-released-clause-work g c =
     subst (λ (machine : Seen).
-    c.turn-released.new.steps
+    c.turn-left.new.steps
     ≤ c.args.steps.now + turn_work machine.code machine.groups (machine.taken + 1) c.args.p machine.world)
-    c.self.view_is c.turn-released.ensures.work
+    c.self.view_is c.turn-left.ensures.work
 
 pub returns-after-released-clause-entry : goal.returns-after-released-clause-entry
 returns-after-released-clause-entry g c e =
     let inside = c.self.inside in
     let entry = subst (λ (machine : Seen). IsKeptEntry machine c.args.p) (sym c.self.view_is) e in
-    c.turn-released.ensures.entry
+    c.turn-left.ensures.entry
     (ap (λ (pair : WordWorld × Told). enters_there (plain inside.code.now) pair.1.kind (slice_get (processes_of inside.parts.procs.items) c.args.p))
-    c.turn-released.ensures.turned
+    c.turn-left.ensures.turned
     ∙ entry)
 
 pub returns-else-still-clause-work : goal.returns-else-still-clause-work
 returns-else-still-clause-work g c =
     subst (λ (machine : Seen).
-    c.turn-released.new.steps
+    c.turn-left.new.steps
     ≤ c.args.steps.now + turn_work machine.code machine.groups (machine.taken + 1) c.args.p machine.world)
-    c.self.view_is c.turn-released.ensures.work
+    c.self.view_is c.turn-left.ensures.work
 
 pub returns-else-still-clause-entry : goal.returns-else-still-clause-entry
 returns-else-still-clause-entry g c e =
     let inside = c.self.inside in
     let entry = subst (λ (machine : Seen). IsKeptEntry machine c.args.p) (sym c.self.view_is) e in
-    c.turn-released.ensures.entry
+    c.turn-left.ensures.entry
     (ap (λ (pair : WordWorld × Told). enters_there (plain inside.code.now) pair.1.kind (slice_get (processes_of inside.parts.procs.items) c.args.p))
-    c.turn-released.ensures.turned
+    c.turn-left.ensures.turned
     ∙ entry)
