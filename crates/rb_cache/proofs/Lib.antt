@@ -2,6 +2,7 @@ pub mod Copies
 pub mod Stamps
 pub mod Merges
 pub mod Chains
+pub mod Reach
 pub mod Views
 pub mod Seen
 pub mod Rejecting

@@ -24,10 +24,10 @@ pub record Innermost (n : ℕ) (ws : List ℤ) (k : RecoveryCache) (marks : List
 pub innermost_is : (ws : List ℤ) (k : RecoveryCache) (marks : List Mark) (st : List ℕ) (log : List Entry) (l w n : ℕ) (m : Mark)
     → seen marks log l w ≡ k
     → 0 < length (open_levels k)
-    → n ≡ length marks → m ≡ get_or marks (n - 1) m → Holds w (reverse marks) st log → Fits ws k → Innermost w ws k marks st log m
+    → n ≡ length marks → m ≡ get_or marks (n - 1) m → Holds (length st) (reverse marks) st log → Fits ws k → Innermost (length st) ws k marks st log m
 innermost_is ws k marks st log l w n m v some e at h f =
     let there : 0 < length marks = omega (arith, some, length-open_levels marks log l w k v) in
-    let t = top_is w marks st log m there (subst (λ (i : ℕ). m ≡ get_or marks (i - 1) m) e at) h in
+    let t = top_is (length st) marks st log m there (subst (λ (i : ℕ). m ≡ get_or marks (i - 1) m) e at) h in
     let is : regions_of (m ∷ t.around) log ≡ k.regions = ap (λ (xs : List Mark). regions_of xs log) (sym t.is) ∙ regions_seen marks log l w k v in
     let low : m.height ≤ length ws = subst (λ (rs : List Region). top_height rs ≤ length ws) (sym is) (top_fits ws k f) in
     let saved = map saved_of (drop m.first log) in

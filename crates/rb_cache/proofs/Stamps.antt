@@ -288,15 +288,17 @@ lt_from_test a b h = grind (arith, common_steps)
 pub le_from_test : (a b : ℕ) → nat_lt a b ≡ false → b ≤ a
 le_from_test a b h = grind (arith, common_steps)
 
-not_noted_in : (m : Mark) (ms : List Mark) (st : List ℕ) (log : List Entry) (p : ℕ) (v : ℤ) → Holds (length st) (m ∷ ms) st log → p < length st
+not_noted_in : (m : Mark) (ms : List Mark) (st : List ℕ) (log : List Entry) (p : ℕ) (v : ℤ) → Holds (length st) (m ∷ ms) st log
+    → (p < m.height → p < length st)
     → (p < m.height → m.first < get_or st p 0) → (b : Bool) → nat_lt p m.height ≡ b → regions_of (m ∷ ms) log ≡ recorded p v (regions_of (m ∷ ms) log)
-not_noted_in m ms st log p v h lt le true i = let below = lt_from_test p m.height i in regions-known (length st) m ms st log p v h lt below (le below)
+not_noted_in m ms st log p v h lt le true i = let below = lt_from_test p m.height i in regions-known (length st) m ms st log p v h (lt below) below (le below)
 not_noted_in m ms st log p v h lt le false i =
     let top : Region = record { height = m.height; saved = map saved_of (drop m.first log) } in
     sym (recorded_above p v top (regions_of ms (take m.first log)) (le_from_test p m.height i))
 
 pub not_noted : (marks : List Mark) (st : List ℕ) (log : List Entry) (p : ℕ) (v : ℤ) (d : Mark) → 0 < length marks
-    → Holds (length st) (reverse marks) st log → p < length st
+    → Holds (length st) (reverse marks) st log
+    → (p < (get_or marks (length marks - 1) d).height → p < length st)
     → (p < (get_or marks (length marks - 1) d).height → (get_or marks (length marks - 1) d).first < get_or st p 0)
     → regions_of (reverse marks) log ≡ recorded p v (regions_of (reverse marks) log)
 not_noted marks st log p v d some k lt le =

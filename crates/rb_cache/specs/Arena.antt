@@ -1,5 +1,5 @@
--- How the regions lie one after the other in one arena, and the stamp of each word: the number of its last entry there,
--- from 1, or 0.
+-- How the regions lie one after the other in one arena, and the stamps of the first words: for each the number of its last
+-- entry there, from 1, or 0. No other word has an entry.
 use Rattle.std.specs.Prelude.{ℕ, ◌+◌, ◌<◌, ◌≤◌, ◌≡◌, Bool, eqb, cond, List, [], ◌∷◌, map, take, drop, length, get_or, zero, suc}
 use Rattle.rb_cache.specs.declared.entry.Entry.{Entry}
 use Rattle.rb_cache.specs.declared.entry.Mark.{Mark}
@@ -35,7 +35,7 @@ abbrev pub Cuts : List Mark → List Entry → Type 0
 Cuts [] log = length log ≡ 0
 Cuts (m ∷ ms) log = (m.first ≤ length log) × Cuts ms (take m.first log)
 
--- what ties the stamps and the arena to the marks, from the innermost out, for n words
+-- what ties n stamps and the arena to the marks, from the innermost out
 pub record Holds (n : ℕ) (ms : List Mark) (stamps : List ℕ) (log : List Entry) : Type 0 where
   pub size : length stamps ≡ n
   pub stamped : WellStamped stamps log

@@ -6,6 +6,7 @@ ghost use Rattle.rb_cache.specs.Copies.{open_levels, copies, copy_at, last_copy,
 
 use crate::chain::{first_value, stamp_at};
 use crate::entry::{Entry, Mark};
+use crate::grow::cover;
 use crate::merge::accept_top;
 use crate::save::{put, save_prior};
 use crate::undo::undo;
@@ -50,7 +51,7 @@ impl Cache {
     pub fn new(alloc: Global, levels: u32, words: u32) -> Result<Self, Memory>
         ensures { IfOk result (λ cache. cache ≡ record { regions = []; limits = record { levels = levels; words = words } }) }
     {
-        let stamps = vec![in alloc; 0; words as usize]?;
+        let stamps = Vec::with_capacity(alloc, words as usize)?;
         let arena = Vec::with_capacity(alloc, levels as usize * words as usize)?;
         let marks = Vec::with_capacity(alloc, levels as usize)?;
         Ok(Cache {
@@ -81,9 +82,11 @@ impl Cache {
         ensures fits { Fits cells.now.words self.new }
         ensures limits { self.new.limits ≡ self.old.limits }
     {
+        let height = cells.height();
+        cover(&mut self.stamps, height, self.words);
         let mark = Mark {
             first: self.arena.len(),
-            height: cells.height(),
+            height,
         };
         put(&mut self.marks, mark);
     }

@@ -5,6 +5,7 @@
 mod cache;
 mod chain;
 mod entry;
+mod grow;
 pub mod laws;
 mod merge;
 mod save;

@@ -26,6 +26,7 @@ fn merge_step(
     ensures size { length arena.new.items ≡ length arena.old.items }
     ensures stamps { length stamps.new.items ≡ length stamps.old.items }
     ensures room { vec_capacity arena.new ≡ vec_capacity arena.old }
+    ensures stamps_room { vec_capacity stamps.new ≡ vec_capacity stamps.old }
     ensures from { kept ≤ result }
     ensures behind { result ≤ i + 1 }
 {
@@ -48,6 +49,7 @@ fn merge(stamps: &mut Vec<usize>, arena: &mut Vec<Entry>, lower: Mark, first: us
     ensures merged { record { stamps = stamps.new.items; log = arena.new.items }
         ≡ merge_all lower (so_far stamps.old.items first arena.old.items) (drop first arena.old.items) }
     ensures room { vec_capacity arena.new ≡ vec_capacity arena.old }
+    ensures stamps_room { vec_capacity stamps.new ≡ vec_capacity stamps.old }
 {
     let mut kept = first;
     for i in first..arena.len() {
@@ -78,6 +80,7 @@ pub fn accept_top(stamps: &mut Vec<usize>, arena: &mut Vec<Entry>, marks: &mut V
     ensures len { vec_len marks.new ≤ vec_len marks.old }
     ensures marks_room { vec_capacity marks.new ≡ vec_capacity marks.old }
     ensures arena_room { vec_capacity arena.new ≡ vec_capacity arena.old }
+    ensures stamps_room { vec_capacity stamps.new ≡ vec_capacity stamps.old }
 {
     let top = top_of(marks);
     marks.truncate(marks.len() - 1);

@@ -3,6 +3,7 @@
 ghost use Rattle.std.specs.Prelude.{◌≡◌, ℕ, ◌+◌, ◌*◌, ◌<◌, ◌≤◌, pos, [], ◌∷◌, ◌++◌, length, reverse, slice_set, get_or, vec_len, vec_capacity};
 ghost use Rattle.rb_cache.specs.Regions.{recorded};
 ghost use Rattle.rb_cache.specs.Arena.{regions_of, Holds};
+ghost use Rattle.rb_cache.specs.Merging.{innermost};
 
 use crate::entry::{Entry, Mark};
 use rb_base::Steps;
@@ -27,6 +28,7 @@ fn note(stamps: &mut Vec<usize>, arena: &mut Vec<Entry>, place: u32, value: i64)
     ensures arena { arena.new.items ≡ arena.old.items ++ record { place = place; value = value; earlier = get_or stamps.old.items place 0 } ∷ [] }
     ensures room { vec_capacity arena.old ≤ vec_capacity arena.new }
     ensures stamps { stamps.new.items ≡ slice_set stamps.old.items place (length arena.old.items + 1) }
+    ensures stamps_room { vec_capacity stamps.new ≡ vec_capacity stamps.old }
 {
     let earlier = stamps[place as usize];
     put(
@@ -52,12 +54,13 @@ pub fn save_prior<L: Ledger>(
 )
     requires holds { Holds (length stamps.old.items) (reverse marks.now) stamps.old.items arena.old.items }
     requires room { length marks.now * length stamps.old.items ≤ vec_capacity arena.old }
-    requires within { at < length stamps.old.items }
+    requires within { at < (innermost (reverse marks.now)).height → at < length stamps.old.items }
     requires at { at < length cells.now.words }
     ensures holds { Holds (length stamps.old.items) (reverse marks.now) stamps.new.items arena.new.items }
     ensures regions { regions_of (reverse marks.now) arena.new.items
         ≡ recorded at (get_or cells.now.words at (pos 0)) (regions_of (reverse marks.now) arena.old.items) }
     ensures room { vec_capacity arena.old ≤ vec_capacity arena.new }
+    ensures stamps_room { vec_capacity stamps.new ≡ vec_capacity stamps.old }
     ensures ticks { steps.new ≤ steps.old + 1 }
 {
     if marks.is_empty() {

@@ -25,6 +25,7 @@ pub fn undo<L: Ledger>(
     ensures arena { arena.new.items ≡ take first arena.old.items }
     ensures room { vec_capacity arena.new ≡ vec_capacity arena.old }
     ensures stamps { length stamps.new.items ≡ length stamps.old.items }
+    ensures stamps_room { vec_capacity stamps.new ≡ vec_capacity stamps.old }
     ensures stamped { WellStamped stamps.new.items arena.new.items }
     ensures cells { cells.new ≡ record { words = put_back cells.old.words (map saved_of (drop first arena.old.items)); limit = cells.old.limit } }
     ensures ticks { steps.new ≡ steps.old + (length arena.old.items - first) }

@@ -34,4 +34,5 @@ returns c =
       len = search rules;
       marks_room = search rules;
       arena_room = search rules;
+      stamps_room = search rules;
     }

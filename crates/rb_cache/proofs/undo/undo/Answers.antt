@@ -60,6 +60,7 @@ loop-arena-preserved g c =
       first = le;
       front = front_of c.args.arena.now.items c.loop-arena.arena.items log e inv.front it;
       room = c.pop.ensures.capacity ∙ inv.room;
+      stamps_room = inv.stamps_room;
       size = length-set st e.place e.earlier ∙ inv.size;
       stamped = WellStamped-pop st log e (subst (λ (xs : List Entry). WellStamped st xs) it inv.stamped) a.1;
       below = subst (λ (k : ℕ). AllByRecursion (λ (o : Saved). o.place < k) (map saved_of (drop c.args.first log)))

@@ -10,6 +10,7 @@ invariant-loop-arena g l =
       first : l.first ≤ length l.arena.items;
       front : take (length l.arena.items) l.fn.arena.items ≡ l.arena.items;
       room : vec_capacity l.arena ≡ vec_capacity l.fn.arena;
+      stamps_room : vec_capacity l.stamps ≡ vec_capacity l.fn.stamps;
       size : length l.stamps.items ≡ length l.fn.stamps.items;
       stamped : WellStamped l.stamps.items l.arena.items;
       below : AllByRecursion (λ (e : Saved). e.place < length l.stamps.items) (map saved_of (drop l.first l.arena.items));

@@ -13,7 +13,7 @@ use Rattle.rb_cache.proofs.cache.Cache.at_entry.Goals as goal
 -- the copy's word, from the fields
 word_seen : (ws : List ℤ) (k : RecoveryCache) (marks : List Mark) (st : List ℕ) (log : List Entry) (l w level at : ℕ) (m : Mark)
     → seen marks log l w ≡ k
-    → Holds w (reverse marks) st log
+    → Holds (length st) (reverse marks) st log
     → level < length (open_levels k) → m ≡ get_or marks level m → at < length (copy_at ws k level)
     → EntryWord ws (copy_at ws k level) (map saved_of (drop m.first log)) at
 word_seen ws k marks st log l w level at m v holds there is within =
@@ -36,7 +36,7 @@ first_value-requires-clause-last g c =
     let i = c.self.inside in
     c.stamp_at-last.ensures
     ∙ ap (λ (xs : List ℕ). get_or xs c.args.at 0) c.deref.ensures.value
-    ∙ stamp_known i.words (reverse i.marks.items) i.stamps.items i.arena.items c.args.at c.self.invariant.holds
+    ∙ stamp_known (length i.stamps.items) (reverse i.marks.items) i.stamps.items i.arena.items c.args.at c.self.invariant.holds
     ∙ ap (λ (xs : List Entry). last_of xs c.args.at) (sym c.deref-2.ensures.value)
 
 pub read-requires : goal.read-requires

@@ -1,4 +1,4 @@
-use Rattle.std.proofs.Common.{subst, arith}
+use Rattle.std.proofs.Common.{length, subst, arith}
 use Rattle.rb_cache.specs.Regions.{Stacked}
 use Rattle.rb_cache.proofs.Seen.{length-open_levels, regions_seen, are_levels}
 use Rattle.rb_cache.proofs.cache.Cache.levels.Goals as goal
@@ -11,6 +11,6 @@ returns-clause-count c =
 pub returns-clause-touched : goal.returns-clause-touched
 returns-clause-touched c =
     let i = c.self.inside in
-    are_levels i.words c.args.self.now.regions
-    (subst (Stacked i.words)
+    are_levels (length i.stamps.items) c.args.self.now.regions
+    (subst (Stacked (length i.stamps.items))
     (regions_seen i.marks.items i.arena.items i.levels i.words c.args.self.now c.self.view_is) c.self.invariant.holds.stacked)

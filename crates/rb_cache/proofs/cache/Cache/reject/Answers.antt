@@ -1,8 +1,7 @@
-use Rattle.std.proofs.Common.{◌≡◌, ◌<◌, ℕ, ℤ, List, ◌∙◌, ap, sym, length, map, subst, arith, rules, take, drop}
-use Rattle.std.specs.List.{AllByRecursion}
+use Rattle.std.proofs.Common.{◌≡◌, ℕ, ℤ, List, ◌∙◌, ap, length, map, subst, arith, rules, take, drop}
 use Rattle.rb_cell.specs.Store.{Store}
 use Rattle.rb_cache.specs.declared.entry.Entry.{Entry}
-use Rattle.rb_cache.specs.Undo.{Saved, put_back}
+use Rattle.rb_cache.specs.Undo.{put_back}
 use Rattle.rb_cache.specs.Copies.{last_copy}
 use Rattle.rb_cache.specs.Arena.{saved_of, WellStamped}
 use Rattle.rb_cache.proofs.Copies.{length-put_back}
@@ -16,8 +15,7 @@ undo-requires-clause-below g c =
     let m = c.index-top.result.now in
     let h = innermost_is c.args.cells.now.words c.args.self.now i.marks.items i.stamps.items i.arena.items i.levels i.words c.len.result m
     c.self.view_is c.requires.some (c.len.ensures ∙ i.marks.ok.0) c.index-top.ensures c.self.invariant.holds c.requires.fits in
-    subst (λ (n : ℕ). AllByRecursion (λ (s : Saved). s.place < n) (map saved_of (drop m.first i.arena.items)))
-    (sym h.top.holds.size) h.top.holds.stacked.0.within
+    h.top.holds.stacked.0.within
 
 pub undo-requires-clause-within : goal.undo-requires-clause-within
 undo-requires-clause-within g c =
@@ -52,8 +50,11 @@ invariant_of-self g c =
       few = c.self.invariant.few;
       marks_room = c.self.invariant.marks_room;
       arena_room = omega (arith, c.undo.ensures.room, c.self.invariant.arena_room);
-      holds = rw (h.top.is, c.undo.ensures.arena)
-          (Holds-undo i.words m h.top.around i.stamps.items c.undo.new.stamps.items i.arena.items h.top.holds stamped c.undo.ensures.stamps);
+      stamps_room = omega (arith, c.undo.ensures.stamps_room, c.self.invariant.stamps_room);
+      few_stamps = omega (arith, c.undo.ensures.stamps, c.self.invariant.few_stamps);
+      reach = omega (arith, c.undo.ensures.stamps, c.self.invariant.reach);
+      holds = rw (h.top.is, c.undo.ensures.arena, c.undo.ensures.stamps)
+          (Holds-undo (length i.stamps.items) m h.top.around i.stamps.items c.undo.new.stamps.items i.arena.items h.top.holds stamped c.undo.ensures.stamps);
     }
 
 pub returns : goal.returns
@@ -68,7 +69,7 @@ returns g c =
     ap (λ (s : Store). s.words) c.drop_to.ensures ∙ ap (λ (s : Store). take m.height s.words) c.undo.ensures.cells in
     let limit : c.drop_to.new.self.limit ≡ c.args.cells.now.limit = ap (λ (s : Store). s.limit) c.drop_to.ensures
     ∙ ap (λ (s : Store). s.limit) c.undo.ensures.cells in
-    let r = rejected i.words ws us c.args.self.now i.marks.items i.stamps.items i.arena.items c.undo.new.arena.items m h u c.undo.ensures.arena in
+    let r = rejected (length i.stamps.items) ws us c.args.self.now i.marks.items i.stamps.items i.arena.items c.undo.new.arena.items m h u c.undo.ensures.arena in
     record {
       cells = ap (λ (xs : List ℤ). record { words = xs; limit = c.drop_to.new.self.limit }) r.words
           ∙ ap (λ (n : ℕ). record { words = last_copy ws c.args.self.now; limit = n }) limit;

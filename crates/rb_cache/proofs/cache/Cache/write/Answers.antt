@@ -33,7 +33,7 @@ returns g c =
           ∙ ap (λ (x : ℤ). record { words = set ws at x; limit = c.args.cells.now.limit }) (to_z-of_z w64 c.args.value (search rules));
       copies = ap (λ (us : List ℤ). reverse (restored us (regions_of (reverse i.marks.items) log))) w
           ∙ ap (λ (rs : List Region). reverse (restored (set ws at v) rs)) saved
-          ∙ ap reverse (restored-write i.words ws at v (regions_of (reverse i.marks.items) i.arena.items) c.self.invariant.holds.stacked)
+          ∙ ap reverse (restored-write (length i.stamps.items) ws at v (regions_of (reverse i.marks.items) i.arena.items) c.self.invariant.holds.stacked)
           ∙ ap (λ (x : RecoveryCache). reverse (restored ws x.regions)) c.self.view_is;
       levels = ap (λ (rs : List Region). reverse (map level_of rs)) r ∙ levels-recorded at old k.regions;
       fits = subst (λ (h : ℕ). AllByRecursion (λ (x : Region). x.height ≤ h) (regions_of (reverse i.marks.items) log)) (sym n)
