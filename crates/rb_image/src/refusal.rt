@@ -7,7 +7,7 @@ use rb_base::Memory;
 use std::alloc::{AllocError, AllocFailed};
 
 /// Why no image was read: the bytes are none, or memory is wanting.
-#[derive(Clone, Copy, Debug, PartialEq, Eq)]
+#[derive(Clone, Copy)]
 pub enum FormRefusal {
     Form,
     Memory,
