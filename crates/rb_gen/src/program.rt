@@ -12,7 +12,8 @@ use rb_base::Memory;
 use rb_code::{BlockCode, Code};
 use rb_draft::Draft;
 use rb_draft::channels::channel_codes;
-use rb_scope::{Checked, names};
+use rb_resolve::names;
+use rb_scope::Checked;
 use std::alloc::Global;
 
 /// The code that stands for a program whose names are resolved and whose recovery blocks are numbered. What a number of

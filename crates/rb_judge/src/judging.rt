@@ -4,9 +4,10 @@ ghost use Rattle.std.specs.Prelude.{◌≤◌, length, IfOk, IfErr};
 ghost use Rattle.rb_judge.specs.Judged.{IsJudged, IsRefusal};
 
 use rb_base::{MOST_BYTES, Names, Nested, Refusal};
-use rb_nest::nest;
+use rb_nesting::nest;
 use rb_parse::parse;
-use rb_scope::{Checked, names, resolve};
+use rb_resolve::{names, resolve};
+use rb_scope::Checked;
 use std::alloc::Global;
 
 /// An accepted source: its tree with what each name stands for, its conversations, and the names that lines and schedules

@@ -5,6 +5,3 @@ pub mod Laws
 pub mod Nest
 pub mod Answers
 pub mod Blocks
-pub mod Summary
-pub mod Memory
-pub mod Members

@@ -12,21 +12,21 @@ use rb_syntax::Name;
 
 /// The conversation of a recovery block, with its number.
 #[derive(Clone, Copy)]
-pub(crate) struct Joined<'a> {
-    pub(crate) name: Name<'a>,
-    pub(crate) number: usize,
+pub struct Joined<'a> {
+    pub name: Name<'a>,
+    pub number: usize,
 }
 
 /// The recovery blocks around a statement, the innermost first, each with its conversation if it has one.
 #[derive(Clone, Copy)]
-pub(crate) enum Blocks<'s, 'a> {
+pub enum Blocks<'s, 'a> {
     None,
     Within(Option<Joined<'a>>, &'s Blocks<'s, 'a>),
 }
 
 impl Blocks<'_, '_> {
     /// The innermost conversation, by its number.
-    pub(crate) fn innermost(&self) -> Option<usize>
+    pub fn innermost(&self) -> Option<usize>
         ensures { result ≡ first_answer (λ number. number) (numbers_of self.now) }
     {
         let mut rest = self;
@@ -40,7 +40,7 @@ impl Blocks<'_, '_> {
     }
 
     /// Whether each is a `converse`.
-    pub(crate) fn all_converse(&self) -> bool
+    pub fn all_converse(&self) -> bool
         ensures { result ≡ list_all is_converse (blocks_of self.now) }
     {
         let mut rest = self;
@@ -54,7 +54,7 @@ impl Blocks<'_, '_> {
     }
 
     /// Whether one conversation more may stand inside those around.
-    pub(crate) fn has_room(&self) -> bool
+    pub fn has_room(&self) -> bool
         ensures { result ≡ nat_lt (conversations_around (blocks_of self.now)) MOST_NESTED }
     {
         let mut conversations = 0;

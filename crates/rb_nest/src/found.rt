@@ -8,7 +8,7 @@ use rb_base::{FaultName, Place, SourceFault};
 use rb_scope::first::first_with;
 
 /// One fault more, where its rule is broken.
-pub(crate) fn note(first: &mut Option<SourceFault>, broken: bool, name: FaultName, place: Place)
+pub fn note(first: &mut Option<SourceFault>, broken: bool, name: FaultName, place: Place)
     ensures { first.new ≡ first_after first.old (where_broken broken name place) }
 {
     if broken {

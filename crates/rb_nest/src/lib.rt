@@ -1,18 +1,8 @@
-//! How conversations and channels of a program nest: the rules, and the first fault.
+//! The rules by which conversations and channels of a program nest, the recovery blocks around a statement, and the first fault so
+//! far. What a program uses is gathered and judged in rb_uses, and its verdict is rb_nesting.
 #![tactic(auto)]
 
 mod blocks;
-mod conversations;
-mod ends;
-mod found;
-mod joins;
-pub mod laws;
-mod nesting;
-mod processes;
-mod rules;
-mod spot;
-mod usage;
-mod uses;
-mod walk;
+pub mod found;
 
-pub use nesting::nest;
+pub use blocks::{Blocks, Joined};

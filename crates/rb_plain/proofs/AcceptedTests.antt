@@ -6,10 +6,10 @@ use Rattle.rb_world.specs.World.{Level as Open, last_of, settled, with_process, 
 use Rattle.rb_world.proofs.ListFacts.{none_some, some_same}
 use Rattle.rb_meaning.specs.State.{State}
 use Rattle.rb_meaning.specs.PlainRun.{EntryPoint, PlainWorld}
-use Rattle.rb_plain.specs.declared.process.Process.{Process}
-use Rattle.rb_plain.specs.Moves.{skipped}
+use Rattle.rb_levels.specs.declared.process.Process.{Process}
+use Rattle.rb_levels.specs.Moves.{skipped}
 use Rattle.rb_walk.specs.States.{state_of}
-use Rattle.rb_plain.specs.Worlds.{level_of, process_of, unkept_kind, world_of}
+use Rattle.rb_levels.specs.Worlds.{level_of, process_of, unkept_kind, world_of}
 use Rattle.rb_plain.proofs.MovedProcesses.{world_moved}
 
 -- the conversation of a level, if a level is open

@@ -23,8 +23,9 @@ use Rattle.rb_walk.specs.Comes.{Judges}
 use Rattle.rb_walk.specs.declared.items.First.{First}
 use Rattle.rb_walk.specs.declared.items.First.TheVariants.{BlockEnd, CallEnd}
 use Rattle.rb_walk.specs.Items.{IsFirst, StandsFirst}
-use Rattle.rb_plain.specs.Moves.{PlainProcess, acted_world, entered_by, gone_on, may_give, performed_by, skipped, started_by, with_moved}
-use Rattle.rb_plain.specs.Worlds.{unkept_kind, MovesTo}
+use Rattle.rb_levels.specs.Moves.{PlainProcess, entered_by, gone_on, performed_by, skipped, started_by}
+use Rattle.rb_plain.specs.Turns.{acted_world, may_give, with_moved}
+use Rattle.rb_levels.specs.Worlds.{unkept_kind, MovesTo}
 
 -- the value of an acceptance test in a process
 abbrev pub tested_in : RecoveryBlock → PlainProcess → Outcome

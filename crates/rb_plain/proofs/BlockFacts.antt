@@ -5,7 +5,7 @@ use Rattle.rb_syntax.specs.Tree.{Tree}
 use Rattle.rb_syntax.specs.Plain.{identifier, recovery_block}
 use Rattle.rb_syntax.proofs.Bridge.{recovery_layer, recovery_out}
 use Rattle.rb_meaning.specs.Groups.{conversation_of, facts_of}
-use Rattle.rb_plain.specs.Worlds.{facts_with}
+use Rattle.rb_levels.specs.Worlds.{facts_with}
 
 pub facts_are : (tree : Tree) (block : Recovery) (n : Option ℕ) → n ≡ conversation_of tree (option_map identifier (out-Recovery block).conversation)
     → facts_with n (recovery_block block) ≡ facts_of tree (recovery_block block)

@@ -21,11 +21,11 @@ use Rattle.rb_meaning.specs.Groups.{channels_of, ends_of}
 use Rattle.rb_meaning.specs.Meaning.{by_state, count_sent, count_taken, sent_on, states_of, taken_on}
 use Rattle.rb_meaning.specs.State.{State}
 use Rattle.rb_meaning.specs.PlainRun.{EntryPoint}
-use Rattle.rb_plain.specs.declared.process.Process.{Process}
+use Rattle.rb_levels.specs.declared.process.Process.{Process}
 use Rattle.rb_plain.specs.Played.{ProcessesLie, VariablesLie, own_words, words_of_all}
 use Rattle.rb_walk.specs.States.{state_of}
 use Rattle.rb_plain.proofs.LentEnds.{LooksUp, process_at, seen_as}
-use Rattle.rb_plain.specs.Worlds.{process_of, world_of}
+use Rattle.rb_levels.specs.Worlds.{process_of, world_of}
 
 -- the state of a process that was lent
 state_seen : (found : Option (Bor Process))

@@ -13,8 +13,8 @@ use Rattle.rb_meaning.specs.Environment.{natural}
 use Rattle.rb_meaning.specs.State.{State}
 use Rattle.rb_meaning.specs.Groups.{ends_of}
 use Rattle.rb_meaning.specs.PlainRun.{EntryPoint}
-use Rattle.rb_plain.specs.declared.process.Process.{Process}
-use Rattle.rb_plain.specs.Worlds.{process_of, unkept_kind, world_of}
+use Rattle.rb_levels.specs.declared.process.Process.{Process}
+use Rattle.rb_levels.specs.Worlds.{process_of, unkept_kind, world_of}
 use Rattle.rb_walk.proofs.Lookups.{looked_up}
 
 -- what a look-up in a slice says of what it lends

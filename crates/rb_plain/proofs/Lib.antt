@@ -1,4 +1,3 @@
-pub mod Records
 pub mod Unkept
 pub mod OwnWords
 pub mod Writing
@@ -6,7 +5,6 @@ pub mod TurnsLeft
 pub mod Opening
 pub mod Releasing
 pub mod LentEnds
-pub mod InnermostLevels
 pub mod Endings
 pub mod WholeText
 pub mod BlockFacts

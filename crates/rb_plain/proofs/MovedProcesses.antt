@@ -9,9 +9,10 @@ use Rattle.rb_meaning.specs.Groups.{groups_of}
 use Rattle.rb_meaning.specs.PlainRun.{PlainWorld}
 use Rattle.rb_walk.specs.declared.halt.Halt.{Halt}
 use Rattle.rb_walk.specs.declared.halt.Halt.TheVariants.{Stuck, Memory}
-use Rattle.rb_plain.specs.declared.process.Process.{Process}
-use Rattle.rb_plain.specs.Moves.{PlainProcess, acted_world, Becomes, with_moved}
-use Rattle.rb_plain.specs.Worlds.{process_of, world_of, MovesTo}
+use Rattle.rb_levels.specs.declared.process.Process.{Process}
+use Rattle.rb_levels.specs.Moves.{PlainProcess, Becomes}
+use Rattle.rb_plain.specs.Turns.{acted_world, with_moved}
+use Rattle.rb_levels.specs.Worlds.{process_of, world_of, MovesTo}
 
 -- a process that is written at its place
 processes_moved : (processes : List Process) (p : ℕ) (new : Process)

@@ -13,8 +13,8 @@ use Rattle.rb_meaning.specs.State.{State}
 use Rattle.rb_meaning.specs.Meaning.{naming_of, opening_state, opening_states, process_named}
 use Rattle.rb_meaning.specs.PlainRun.{EntryPoint, PlainWorld}
 use Rattle.rb_meaning.proofs.Knowing.FewEventsOfTurns.{length-opening_states}
-use Rattle.rb_plain.specs.declared.process.Process.{Process}
-use Rattle.rb_plain.specs.Worlds.{process_of, unkept_kind, world_of}
+use Rattle.rb_levels.specs.declared.process.Process.{Process}
+use Rattle.rb_levels.specs.Worlds.{process_of, unkept_kind, world_of}
 use Rattle.rb_plain.specs.Played.{unkept_opening}
 
 -- the processes from number i on

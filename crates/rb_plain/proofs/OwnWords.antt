@@ -27,7 +27,7 @@ use Rattle.rb_meaning.specs.Meaning.{naming_of, opening_state, opening_states, p
 use Rattle.rb_meaning.specs.PlainRun.{EntryPoint, PlainWorld, environment_at}
 use Rattle.rb_meaning.proofs.Nesting.StepsKeepRules.{EndsIn, StepsTo, either_ends, judged_either, step_ends, then_ends}
 use Rattle.rb_meaning.proofs.NamedVariables.{named_within}
-use Rattle.rb_plain.specs.Worlds.{unkept_kind}
+use Rattle.rb_levels.specs.Worlds.{unkept_kind}
 use Rattle.rb_plain.specs.Played.{ProcessesLie, own_words, played, unkept_opening, world_in}
 
 -- how many words a frame has, and the process's own of a state

@@ -13,8 +13,8 @@ use Rattle.rb_world.specs.Turn.{freed, lines_freed}
 use Rattle.rb_world.specs.World.{Process as Seen}
 use Rattle.rb_meaning.specs.State.{State}
 use Rattle.rb_meaning.specs.PlainRun.{EntryPoint}
-use Rattle.rb_plain.specs.declared.process.Process.{Process}
-use Rattle.rb_plain.specs.Worlds.{level_of, process_of, unkept_kind}
+use Rattle.rb_levels.specs.declared.process.Process.{Process}
+use Rattle.rb_levels.specs.Worlds.{level_of, process_of, unkept_kind}
 use Rattle.rb_walk.specs.States.{state_of}
 
 -- one more process holds no line

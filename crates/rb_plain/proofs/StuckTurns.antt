@@ -9,9 +9,9 @@ use Rattle.rb_world.proofs.ListFacts.{none_some, some_same}
 use Rattle.rb_meaning.specs.PlainRun.{PlainWorld}
 use Rattle.rb_plain.specs.declared.stuck.StuckTurn.{StuckTurn}
 use Rattle.rb_plain.specs.Played.{played, stuck_in, unkept_opening}
-use Rattle.rb_plain.specs.Recorded.{AreKept}
+use Rattle.rb_record.specs.Recorded.{AreKept}
 use Rattle.rb_plain.specs.Stuck.{behind, stuck_among, turn_cause, IsStuck, StuckTurnsAreFound}
-use Rattle.rb_plain.specs.Worlds.{unkept_kind}
+use Rattle.rb_levels.specs.Worlds.{unkept_kind}
 use Rattle.rb_plain.proofs.TurnsLeft.{stuck_told}
 
 module _ (tree : Tree) (turn : ℕ) where

@@ -14,9 +14,9 @@ use Rattle.rb_world.proofs.ListFacts.{heads_same, tails_same}
 use Rattle.rb_meaning.specs.Groups.{groups_of}
 use Rattle.rb_meaning.specs.State.{State}
 use Rattle.rb_meaning.specs.PlainRun.{EntryPoint}
-use Rattle.rb_plain.specs.declared.process.Process.{Process}
+use Rattle.rb_levels.specs.declared.process.Process.{Process}
 use Rattle.rb_plain.specs.Members.{HasMembers}
-use Rattle.rb_plain.specs.Worlds.{process_of, unkept_kind, world_of}
+use Rattle.rb_levels.specs.Worlds.{process_of, unkept_kind, world_of}
 use Rattle.rb_plain.proofs.LentEnds.{LooksUp}
 use Rattle.rb_walk.proofs.Lookups.{looked_up}
 

@@ -11,10 +11,11 @@ use Rattle.rb_meaning.specs.State.{State}
 use Rattle.rb_meaning.specs.Step.{Nothing}
 use Rattle.rb_syntax.specs.Tree.{Tree}
 use Rattle.rb_meaning.specs.PlainRun.{EntryPoint, PlainWorld}
-use Rattle.rb_plain.specs.Worlds.{moved_world, unkept_kind}
-use Rattle.rb_plain.specs.Played.{Rehearses, TakesTurn, outs_in, played, stuck_in, world_in}
-use Rattle.rb_plain.specs.declared.answer.PlainAnswer.{PlainAnswer}
-use Rattle.rb_plain.specs.declared.answer.PlainAnswer.TheVariants.{Stuck, WriteFault, Memory}
+use Rattle.rb_levels.specs.Worlds.{moved_world, unkept_kind}
+use Rattle.rb_plain.specs.Played.{Rehearses, outs_in, played, stuck_in, world_in}
+use Rattle.rb_levels.specs.Taken.{TakesTurn}
+use Rattle.rb_levels.specs.declared.answer.PlainAnswer.{PlainAnswer}
+use Rattle.rb_levels.specs.declared.answer.PlainAnswer.TheVariants.{Stuck, WriteFault, Memory}
 
 -- what is told of a turn changes neither whether the others are stuck, nor the world at the end
 pub stuck_told : {S C M : Type 0} (t : ℕ) (one : Told) (end : PlainEnd S C M) → stuck_in (plain_told t one end) ≡ stuck_in end

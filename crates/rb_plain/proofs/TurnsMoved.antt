@@ -8,9 +8,10 @@ use Rattle.rb_meaning.specs.Step.{wants_first}
 use Rattle.rb_meaning.specs.PlainRun.{PlainWorld}
 use Rattle.rb_walk.specs.declared.halt.Halt.{Halt}
 use Rattle.rb_walk.specs.declared.items.First.{First}
-use Rattle.rb_plain.specs.declared.process.Process.{Process}
-use Rattle.rb_plain.specs.Moves.{PlainProcess, acted_world, IsFirstReady, IsReady}
-use Rattle.rb_plain.specs.Worlds.{moved_world, process_of, status_of, unkept_kind, world_of, MovesTo}
+use Rattle.rb_levels.specs.declared.process.Process.{Process}
+use Rattle.rb_levels.specs.Moves.{PlainProcess, IsReady}
+use Rattle.rb_plain.specs.Turns.{acted_world, IsFirstReady}
+use Rattle.rb_levels.specs.Worlds.{moved_world, process_of, status_of, unkept_kind, world_of, MovesTo}
 
 module _ (tree : Tree) (kept : Kept) (processes : List Process) where
   -- the world after the turn, by the process that is there

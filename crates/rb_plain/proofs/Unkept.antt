@@ -21,7 +21,7 @@ use Rattle.rb_meaning.specs.Step.{Nothing, Result_of_step, assigned, bound_to, c
 use Rattle.rb_meaning.specs.Groups.{channel_number, channels_of, procedure_named}
 use Rattle.rb_meaning.specs.Meaning.{by_state, count_sent, count_taken, final_of, naming_of, opening_state, opening_states, sent_on, states_of, taken_on}
 use Rattle.rb_meaning.specs.PlainRun.{EntryPoint, PlainWorld, environment_at, plain_kind, plain_of, plain_opening, plain_text_at}
-use Rattle.rb_plain.specs.Worlds.{unkept_kind}
+use Rattle.rb_levels.specs.Worlds.{unkept_kind}
 use Rattle.rb_plain.specs.Played.{UnnotedTurnsTellSame, played, unkept_opening}
 
 -- a state without its kept turns

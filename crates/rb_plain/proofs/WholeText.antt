@@ -14,8 +14,8 @@ use Rattle.rb_meaning.specs.State.{State}
 use Rattle.rb_meaning.specs.Step.{Nothing}
 use Rattle.rb_meaning.specs.Meaning.{final_of, naming_of}
 use Rattle.rb_meaning.specs.PlainRun.{EntryPoint, PlainWorld, plain_text, plain_text_at}
-use Rattle.rb_plain.specs.declared.answer.PlainAnswer.{PlainAnswer}
-use Rattle.rb_plain.specs.declared.answer.PlainAnswer.TheVariants.{Stuck, WriteFault, Memory}
+use Rattle.rb_levels.specs.declared.answer.PlainAnswer.{PlainAnswer}
+use Rattle.rb_levels.specs.declared.answer.PlainAnswer.TheVariants.{Stuck, WriteFault, Memory}
 use Rattle.rb_plain.specs.Played.{Plays, Rehearses, outs_in, played, stuck_in, unkept_opening, world_in}
 use Rattle.rb_plain.proofs.Unkept.{unnoted_tell_same}
 

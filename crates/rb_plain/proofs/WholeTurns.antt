@@ -9,7 +9,7 @@ use Rattle.rb_world.proofs.ListFacts.{none_some, some_same}
 use Rattle.rb_meaning.specs.State.{State}
 use Rattle.rb_meaning.specs.Step.{Nothing}
 use Rattle.rb_meaning.specs.PlainRun.{EntryPoint, PlainWorld}
-use Rattle.rb_plain.specs.Worlds.{moved_world, unkept_kind}
+use Rattle.rb_levels.specs.Worlds.{moved_world, unkept_kind}
 
 module _ (tree : Tree) (kept : Kept) (w : PlainWorld) where
   moved_on : (moved : Option (Moved State EntryPoint Nothing)) (v u : PlainWorld) → option_map (λ m. m.world) moved ≡ Some v

@@ -8,8 +8,8 @@ use Rattle.rb_outside.proofs.Puts.{puts_both, puts_stopped}
 use Rattle.rb_outside.proofs.Written.{WrotePart-within, WrotePart-after, then_written-nil}
 use Rattle.rb_trace.proofs.Written.{Written, written_all, written_more}
 use Rattle.rb_plain.specs.Played.{Writes}
-use Rattle.rb_plain.specs.declared.answer.PlainAnswer.{PlainAnswer}
-use Rattle.rb_plain.specs.declared.answer.PlainAnswer.TheVariants.{Stuck, WriteFault, Memory}
+use Rattle.rb_levels.specs.declared.answer.PlainAnswer.{PlainAnswer}
+use Rattle.rb_levels.specs.declared.answer.PlainAnswer.TheVariants.{Stuck, WriteFault, Memory}
 
 -- another name for the text
 pub writes_same : (a b : List ℕ) (w0 w1 : Option (List ℕ)) (f0 f1 : Faults) (r : Result (Unit {0}) PlainAnswer) → a ≡ b

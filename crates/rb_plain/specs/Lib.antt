@@ -1,7 +1,4 @@
-pub mod Record
-pub mod Recorded
-pub mod Worlds
 pub mod Members
-pub mod Moves
+pub mod Turns
 pub mod Played
 pub mod Stuck

@@ -16,10 +16,10 @@ use Rattle.rb_meaning.specs.State.{State}
 use Rattle.rb_meaning.specs.Step.{Nothing}
 use Rattle.rb_meaning.specs.Meaning.{opening_states, states_of}
 use Rattle.rb_meaning.specs.PlainRun.{EntryPoint, PlainWorld, plain_text, plain_text_at}
-use Rattle.rb_plain.specs.Worlds.{unkept_kind}
-use Rattle.rb_plain.specs.declared.process.Process.{Process}
-use Rattle.rb_plain.specs.declared.answer.PlainAnswer.{PlainAnswer}
-use Rattle.rb_plain.specs.declared.answer.PlainAnswer.TheVariants.{Stuck, WriteFault, Memory}
+use Rattle.rb_levels.specs.Worlds.{unkept_kind}
+use Rattle.rb_levels.specs.declared.process.Process.{Process}
+use Rattle.rb_levels.specs.declared.answer.PlainAnswer.{PlainAnswer}
+use Rattle.rb_levels.specs.declared.answer.PlainAnswer.TheVariants.{Stuck, WriteFault, Memory}
 
 -- the world in which a plain run begins
 abbrev pub unkept_opening : Tree → PlainWorld
@@ -47,13 +47,6 @@ world_in (StuckAt t) = None
 abbrev pub outs_in : {S C M : Type 0} → Naming → PlainEnd S C M → List ℕ
 outs_in names (Ended w lines) = outs_text names lines
 outs_in names (StuckAt t) = []
-
--- A turn of this number was taken to a new world, or it is stuck there. Want of memory says nothing.
-abbrev pub TakesTurn : ℕ → Option PlainWorld → PlainWorld → Result (Unit {0}) PlainAnswer → Type 0
-TakesTurn t moved new (Ok done) = moved ≡ Some new
-TakesTurn t moved new (Err (Stuck u)) = (moved ≡ None) × (u ≡ t)
-TakesTurn t moved new (Err WriteFault) = ⊥
-TakesTurn t moved new (Err Memory) = Unit {0}
 
 -- All turns can be taken, or the run is stuck at one of them. Want of memory says nothing.
 abbrev pub Rehearses : Option ℕ → Result (Unit {0}) PlainAnswer → Type 0

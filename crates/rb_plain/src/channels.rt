@@ -1,17 +1,16 @@
 //! What a receiver of a plain run can see, and how much room a sender has.
 
 ghost use Rattle.std.specs.Prelude.{◌≡◌, ◌+◌, map, nat_lt, option_map, slice_get};
-ghost use Rattle.std.specs.Option.{unwrap_or};
 ghost use Rattle.rb_syntax.specs.Tree.{Tree};
 ghost use Rattle.rb_syntax.specs.Plain.{tree};
-ghost use Rattle.rb_world.specs.Channels.{first_message, has_room, has_room_for, message_between, message_there, room_from, seen_copy, seen_count};
+ghost use Rattle.rb_world.specs.Channels.{first_message, has_room, has_room_for, message_between, message_there, seen_copy, seen_count};
 ghost use Rattle.rb_world.specs.World.{is_shared};
 ghost use Rattle.rb_meaning.specs.Environment.{natural};
 ghost use Rattle.rb_meaning.specs.Meaning.{taken_on};
-ghost use Rattle.rb_plain.specs.Worlds.{level_of, process_of, unkept_kind, world_of};
+ghost use Rattle.rb_levels.specs.Worlds.{level_of, process_of, unkept_kind, world_of};
 ghost use Rattle.rb_walk.specs.States.{state_of};
 
-use crate::process::{Level, Process};
+use rb_levels::{Level, Process, count_at, room_from};
 use rb_meaning::numbers::process_number;
 use rb_syntax::{Number, Program};
 
@@ -61,23 +60,6 @@ fn has_room_behind(sent: usize, from: usize, size: Number) -> bool
         None => true,
         Some(behind) => size.value > 0 && (behind as u64) < (size.value as u64),
     }
-}
-
-// The number taken that room is counted from: at the entry of the outermost level, or the present one.
-fn room_from(receiver: &Process<'_, '_>, channel: usize) -> usize
-    ensures { (tree : Tree) → result ≡ room_from (unkept_kind tree) (state_of receiver.now.state) (map level_of receiver.now.levels.items) channel }
-{
-    match receiver.levels.first() {
-        Some(level) => count_at(&level.taken, channel),
-        None => receiver.state.taken_on(channel),
-    }
-}
-
-// One of the counts that stood at a level's entry.
-fn count_at(counts: &[usize], channel: usize) -> usize
-    ensures { result ≡ unwrap_or (slice_get counts.now channel) 0 }
-{
-    counts.get(channel).copied().unwrap_or(0)
 }
 
 /// The first message that the receiver of this channel can see and did not take, if there is one.

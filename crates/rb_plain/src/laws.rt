@@ -1,13 +1,7 @@
-//! What holds of every record, and of its plain run.
+//! What holds of every plain run.
 
 ghost use Rattle.rb_plain.specs.Played.{UnnotedTurnsTellSame};
-ghost use Rattle.rb_plain.specs.Recorded.{RecordsRise};
 ghost use Rattle.rb_plain.specs.Stuck.{StuckTurnsAreFound};
-
-/// The turns of each record are those of its processes, and rise within the limits.
-pub fn records_rise()
-    ensures { RecordsRise }
-{}
 
 /// A plain run in which no turn is noted has the text of one that notes them: it prints the same and ends in the same values, or is stuck at
 /// the same turn.

@@ -8,12 +8,12 @@ ghost use Rattle.rb_meaning.specs.PlainRun.{plain_text};
 ghost use Rattle.rb_plain.specs.Members.{HasMembers};
 ghost use Rattle.rb_plain.specs.Played.{played, stuck_in, unkept_opening, Plays, Writes};
 
-use crate::answer::PlainAnswer;
 use crate::playing::{opening, play, rehearse};
-use crate::record::Record;
 use crate::values::write_values;
 use rb_base::{Kept, Names, Nested};
+use rb_levels::PlainAnswer;
 use rb_outside::Sink;
+use rb_record::Record;
 use rb_syntax::Program;
 use std::alloc::Global;
 

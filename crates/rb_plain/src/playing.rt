@@ -11,17 +11,17 @@ ghost use Rattle.rb_world.specs.Turn.{freed, freed_lines};
 ghost use Rattle.rb_world.specs.World.{settled, with_each};
 ghost use Rattle.rb_meaning.specs.Meaning.{opening_state};
 ghost use Rattle.rb_plain.specs.Members.{HasMembers};
-ghost use Rattle.rb_plain.specs.Played.{outs_in, played, stuck_in, unkept_opening, world_in, Rehearses, TakesTurn, Writes};
-ghost use Rattle.rb_plain.specs.Worlds.{moved_world, process_of, unkept_kind, world_of};
+ghost use Rattle.rb_plain.specs.Played.{outs_in, played, stuck_in, unkept_opening, world_in, Rehearses, Writes};
+ghost use Rattle.rb_levels.specs.Taken.{TakesTurn};
+ghost use Rattle.rb_levels.specs.Worlds.{moved_world, process_of, unkept_kind, world_of};
 
-use crate::answer::PlainAnswer;
-use crate::process::Process;
 use crate::turn::take_turn;
 use rb_base::{Kept, Memory, Names, Nested};
+use rb_levels::{PlainAnswer, Process};
 use rb_outside::{Failed, Sink};
 use rb_syntax::{Process as Declaration, Program};
 use rb_trace::write_out;
-use rb_walk::{Halt, State};
+use rb_walk::State;
 use std::alloc::Global;
 
 /// The processes of a program before the first turn.
@@ -132,11 +132,10 @@ fn take<'t, 'a>(
         (moved_world (tree program.now) kept (world_of (tree program.now) processes.old))
         (world_of (tree program.now) processes.new) result }
 {
-    match take_turn(alloc, program, nested, processes, kept) {
-        Ok(()) => Ok(()),
-        Err(Halt::Stuck) => Err(PlainAnswer::Stuck(kept.turn)),
-        Err(Halt::Memory) => Err(PlainAnswer::Memory),
-    }
+    PlainAnswer::of_turn(
+        take_turn(alloc, program, nested, processes, kept),
+        kept.turn,
+    )
 }
 
 /// No process without an open level holds a line any more.

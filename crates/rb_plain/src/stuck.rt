@@ -9,44 +9,22 @@ ghost use Rattle.rb_meaning.specs.Step.{wants_first};
 ghost use Rattle.rb_walk.specs.Items.{IsFirst, StandsFirst};
 ghost use Rattle.rb_walk.specs.States.{state_of};
 ghost use Rattle.rb_plain.specs.Members.{HasMembers};
-ghost use Rattle.rb_plain.specs.Moves.{PlainProcess};
-ghost use Rattle.rb_plain.specs.Stuck.{cause_of_process, cause_of_want, receipt_cause, send_cause, start_cause, stuck_among, stuck_turn, turn_cause, unless_given, Advances};
-ghost use Rattle.rb_plain.specs.Worlds.{process_of, status_of, unkept_kind, world_of};
+ghost use Rattle.rb_levels.specs.Moves.{PlainProcess};
+ghost use Rattle.rb_levels.specs.Causes.{cause_of_process, cause_of_want, receipt_cause, send_cause, start_cause, unless_given};
+ghost use Rattle.rb_plain.specs.Stuck.{stuck_among, stuck_turn, turn_cause, Advances};
+ghost use Rattle.rb_levels.specs.Worlds.{process_of, status_of, unkept_kind, world_of};
 
 use crate::channels::{has_room, message_there};
 use crate::playing::{free_all, opening};
-use crate::process::Process;
-use crate::record::Record;
 use crate::turn::take_turn;
 use crate::want::{Want, want_of};
 use rb_base::{Kept, Memory, Nested};
+use rb_levels::{Process, StuckCause};
+use rb_record::Record;
 use rb_syntax::{Program, Statement};
 use rb_walk::Halt;
 use rb_walk::items::First;
 use std::alloc::Global;
-
-/// Why a kept turn can't be taken.
-#[derive(Clone, Copy)]
-pub enum StuckCause {
-    /// The process has ended.
-    Ended,
-    /// It stands at its test line, which other members have not reached.
-    AtLine,
-    /// The turn gives an alternate, and nothing starts here.
-    NothingStarts,
-    /// A recovery block starts here, and the turn gives none of its alternates, which are so many.
-    OtherAlternate(usize),
-    /// There is no room on the channel of this number.
-    NoRoom(usize),
-    /// There is no message on the channel of this number.
-    NoMessage(usize),
-    /// As many levels are open as may be.
-    TooDeep,
-    /// The acceptance test does not hold, or traps.
-    TestFails,
-    /// The statement traps.
-    Traps,
-}
 
 /// A kept turn that can't be taken, and why.
 #[derive(Clone, Copy)]
@@ -142,13 +120,10 @@ fn process_cause<'t, 'a>(
     ensures { result ≡ cause_of_process (tree program.now) kept (process_of process.now) (world_of (tree program.now) processes.now)
         (status_of process.now.is_done) }
 {
-    if process.is_done {
-        return StuckCause::Ended;
+    match process.standing_cause() {
+        Some(cause) => cause,
+        None => first_cause(program, processes, process, kept, process.state.first()),
     }
-    if process.at_line {
-        return StuckCause::AtLine;
-    }
-    first_cause(program, processes, process, kept, process.state.first())
 }
 
 // The same of a running process, away from every test line, of which this stands first.

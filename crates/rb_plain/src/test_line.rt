@@ -8,13 +8,13 @@ ghost use Rattle.rb_syntax.specs.Plain.{tree};
 ghost use Rattle.rb_world.specs.Turn.{accepted, all_stand, at_test_line, leaves, stands_there};
 ghost use Rattle.rb_world.specs.World.{last_of};
 ghost use Rattle.rb_plain.specs.Members.{HasMembers};
-ghost use Rattle.rb_plain.specs.Moves.{skipped, IsReady};
+ghost use Rattle.rb_levels.specs.Moves.{skipped, IsReady};
 ghost use Rattle.rb_walk.specs.States.{state_of};
-ghost use Rattle.rb_plain.specs.Worlds.{level_of, process_of, unkept_kind, world_of};
-ghost use Rattle.rb_plain.specs.declared.process.Process.{Process as Here};
+ghost use Rattle.rb_levels.specs.Worlds.{level_of, process_of, unkept_kind, world_of};
+ghost use Rattle.rb_levels.specs.declared.process.Process.{Process as Here};
 
-use crate::process::Process;
 use rb_base::Nested;
+use rb_levels::Process;
 use rb_syntax::Program;
 
 /// The acceptance test of process p's innermost level held. A private level goes. A member of a conversation stands at its test line,

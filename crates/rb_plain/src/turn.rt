@@ -5,16 +5,18 @@ ghost use Rattle.rb_syntax.specs.Plain.{command, recovery_block, tree};
 ghost use Rattle.rb_meaning.specs.State.{Perform, TestOf};
 ghost use Rattle.rb_walk.specs.Items.{IsFirst, StandsFirst};
 ghost use Rattle.rb_plain.specs.Members.{HasMembers};
-ghost use Rattle.rb_plain.specs.Moves.{acted_world, may_give, IsFirstReady, IsReady};
+ghost use Rattle.rb_plain.specs.Turns.{acted_world, may_give, IsFirstReady};
+ghost use Rattle.rb_levels.specs.Moves.{IsReady};
 ghost use Rattle.rb_walk.specs.States.{state_of};
-ghost use Rattle.rb_plain.specs.Worlds.{moved_world, process_of, world_of, MovesTo};
-ghost use Rattle.rb_plain.specs.declared.process.Process.{Process as Here};
+ghost use Rattle.rb_levels.specs.Worlds.{moved_world, process_of, world_of, MovesTo};
+ghost use Rattle.rb_levels.specs.declared.process.Process.{Process as Here};
 
 use crate::channels::{has_room, message_there};
-use crate::process::Process;
+use crate::entry::enter;
 use crate::test_line::accept;
 use crate::want::{Want, want_of};
 use rb_base::{Kept, Nested};
+use rb_levels::Process;
 use rb_syntax::{Program, Recovery, Statement};
 use rb_walk::Halt;
 use rb_walk::items::First;
@@ -111,7 +113,7 @@ fn perform<'t, 'a>(
 {
     let p = kept.process as usize;
     match want_of(program, statement) {
-        Want::Level(block) => processes[p].enter(alloc, program, block),
+        Want::Level(block) => enter(alloc, program, &mut processes[p], block),
         Want::Nothing => processes[p].perform(alloc, program, None, statement),
         Want::Room(channel) => {
             if has_room(program, processes, channel) {

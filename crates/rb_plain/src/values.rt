@@ -10,13 +10,12 @@ ghost use Rattle.rb_meaning.specs.Environment.{global_words};
 ghost use Rattle.rb_meaning.specs.Groups.{channels_of, process_number};
 ghost use Rattle.rb_meaning.specs.Meaning.{by_state, count_sent, count_taken, final_of, naming_of, sent_on, states_of, taken_on};
 ghost use Rattle.rb_plain.specs.Played.{own_words, words_of_all, ProcessesLie, VariablesLie, Writes};
-ghost use Rattle.rb_plain.specs.Worlds.{world_of};
+ghost use Rattle.rb_levels.specs.Worlds.{world_of};
 
-use crate::answer::PlainAnswer;
-use crate::process::Process;
 use itoa::Buffer;
 use rb_base::names::{ProcessNames, Variable};
 use rb_base::{Memory, Names};
+use rb_levels::{PlainAnswer, Process};
 use rb_meaning::numbers::process_number;
 use rb_outside::{Failed, Sink};
 use rb_syntax::Program;

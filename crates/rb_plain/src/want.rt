@@ -4,7 +4,7 @@ ghost use Rattle.std.specs.Prelude.{◌≡◌};
 ghost use Rattle.rb_syntax.specs.Tree.{Command, Tree};
 ghost use Rattle.rb_syntax.specs.Plain.{command, otherwise, tree};
 ghost use Rattle.rb_meaning.specs.Step.{wants, wants_receipt};
-ghost use Rattle.rb_plain.specs.Moves.{IsWanted};
+ghost use Rattle.rb_plain.specs.Turns.{IsWanted};
 
 use rb_meaning::numbers::channel_number;
 use rb_syntax::{Block, Program, Recovery, Statement};

@@ -1,6 +1,4 @@
-pub mod Placing
 pub mod Places
-pub mod Visited
 pub mod Long
 pub mod Order
 pub mod Given

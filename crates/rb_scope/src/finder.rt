@@ -12,7 +12,7 @@ use std::marker::Model;
 
 /// The first fault so far, and the slots so far, by the numbers of the names.
 #[derive(Drop)]
-pub(crate) struct Finder {
+pub struct Finder {
     first: Option<SourceFault>,
     slots: Vec<Slot>,
 }
@@ -27,7 +27,7 @@ impl Model for Finder {
 
 impl Finder {
     /// No fault, and each of so many names is taken for that of the program.
-    pub(crate) fn new(alloc: Global, names: u32) -> Result<Self, Memory>
+    pub fn new(alloc: Global, names: u32) -> Result<Self, Memory>
         ensures { IfOk result (λ finder. finder ≡ record { first = None; slots = replicate names Slot.ProgramName }) }
     {
         let slots = Vec::from_elem(alloc, Slot::ProgramName, names as usize)?;
@@ -35,7 +35,7 @@ impl Finder {
     }
 
     /// One fault more, where its rule is broken.
-    pub(crate) fn note(&mut self, broken: bool, name: FaultName, place: Place)
+    pub fn note(&mut self, broken: bool, name: FaultName, place: Place)
         ensures { self.new ≡ record self.old { first = first_after self.old.first (where_broken broken name place) } }
     {
         if broken {
@@ -44,14 +44,14 @@ impl Finder {
     }
 
     /// The slot of the name of this number.
-    pub(crate) fn give(&mut self, id: u32, slot: Slot)
+    pub fn give(&mut self, id: u32, slot: Slot)
         ensures { self.new ≡ record self.old { slots = slice_set self.old.slots id slot } }
     {
         set(&mut self.slots, id as usize, slot);
     }
 
     /// The slots, unless there is a fault.
-    pub(crate) fn slots(self) -> Result<Vec<Slot>, SourceFault>
+    pub fn slots(self) -> Result<Vec<Slot>, SourceFault>
         ensures ok { IfOk result (λ slots. (self.first ≡ None) × (slots.items ≡ self.slots)) }
         ensures err { IfErr result (λ fault. self.first ≡ Some fault) }
     {

@@ -1,26 +1,20 @@
-//! What each name of a source stands for, and the faults of scopes and limits.
+//! Scopes of a program and the rules of names and limits: what a name means in the scopes around it, which of several faults is
+//! told, and what is found so far. The walk that asks for it is rb_resolve.
 #![tactic(auto)]
 
 mod checked;
 mod declared;
-mod expression;
 mod finder;
 pub mod first;
-pub mod laws;
-mod lists;
-mod naming;
-mod operands;
-mod program;
-mod rules;
+mod limits;
 mod scope;
-mod sites;
 pub mod slot;
-mod spot;
-mod statement;
-mod variables;
 mod want;
 
-pub use checked::{Checked, resolve};
-pub use lists::most_processes;
-pub use naming::names;
+pub use checked::Checked;
+pub use declared::Declared;
+pub use finder::Finder;
+pub use limits::most_processes;
+pub use scope::{Scope, Scopes};
 pub use slot::Slot;
+pub use want::Want;

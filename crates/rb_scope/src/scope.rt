@@ -14,7 +14,7 @@ use std::marker::Model;
 
 /// The declarations of a scope, in the order of the text, and the place of the first of each name among them.
 #[derive(Drop)]
-pub(crate) struct Scope<'a> {
+pub struct Scope<'a> {
     declared: Vec<Declared<'a>>,
     places: HashMap<&'a [u8], usize>,
 }
@@ -34,7 +34,7 @@ impl<'a> Model for Scope<'a> {
 
 impl<'a> Scope<'a> {
     /// A scope of these declarations.
-    pub(crate) fn new(alloc: Global, declared: Vec<Declared<'a>>) -> Result<Self, Memory>
+    pub fn new(alloc: Global, declared: Vec<Declared<'a>>) -> Result<Self, Memory>
         ensures { IfOk result (λ scope. scope ≡ all_held declared.entry.items) }
     {
         let places = index(alloc, &declared)?;
@@ -42,14 +42,14 @@ impl<'a> Scope<'a> {
     }
 
     /// How many declarations it has.
-    pub(crate) fn len(&self) -> usize
+    pub fn len(&self) -> usize
         ensures { result ≡ length self.now }
     {
         self.declared.len()
     }
 
     /// A declaration by its place.
-    pub(crate) fn at(&self, place: usize) -> Declared<'a>
+    pub fn at(&self, place: usize) -> Declared<'a>
         requires { place < length self.now }
         ensures { slice_get self.now place ≡ Some (held result) }
     {
@@ -57,7 +57,7 @@ impl<'a> Scope<'a> {
     }
 
     /// Whether a name is declared before a place.
-    pub(crate) fn is_before(&self, name: &[u8], place: usize) -> bool
+    pub fn is_before(&self, name: &[u8], place: usize) -> bool
         ensures { result ≡ list_any (λ one. same_name one.name.text name.now) (take place self.now) }
     {
         match self.places.get(name) {
@@ -67,7 +67,7 @@ impl<'a> Scope<'a> {
     }
 
     /// The first declaration of a name.
-    pub(crate) fn find(&self, name: &[u8]) -> Option<Declared<'a>>
+    pub fn find(&self, name: &[u8]) -> Option<Declared<'a>>
         ensures { option_map held result ≡ declared_in name.now self.now }
     {
         match self.places.get(name) {
@@ -93,14 +93,14 @@ fn index<'a>(alloc: Global, declared: &[Declared<'a>]) -> Result<HashMap<&'a [u8
 
 /// The scopes around a place, the innermost first.
 #[derive(Clone, Copy)]
-pub(crate) enum Scopes<'s, 'a> {
+pub enum Scopes<'s, 'a> {
     None,
     Within(&'s Scope<'a>, &'s Scopes<'s, 'a>),
 }
 
 impl<'a> Scopes<'_, 'a> {
     /// What a name means: its declaration in the innermost scope that has one.
-    pub(crate) fn meaning_of(&self, name: &[u8]) -> Option<Declared<'a>>
+    pub fn meaning_of(&self, name: &[u8]) -> Option<Declared<'a>>
         ensures { option_map held result ≡ meaning_of name.now (scopes_of self.now) }
     {
         let mut rest = self;

@@ -17,13 +17,13 @@ use Rattle.rb_tell.specs.declared.reads.Reads.{Reads}
 use Rattle.rb_tell.specs.declared.reads.Reads.TheVariants as read
 use Rattle.rb_tell.specs.declared.told.Told.{Told}
 use Rattle.rb_tell.specs.declared.told.Told.TheVariants as say
-use Rattle.rb_why.specs.Frame.{framed_alone}
+use Rattle.rb_frame.specs.Frame.{framed_alone}
 use Rattle.rb_why.specs.Phrases.{long_words, sentence}
 use Rattle.rb_why.specs.Source.{IsReason}
 use Rattle.rb_why.specs.Stuck.{stuck_told}
 use Rattle.rb_why.specs.Text.{names_process, text_told}
 use Rattle.rb_base.specs.declared.kept.Kept.{Kept}
-use Rattle.rb_plain.specs.Record.{record_of}
+use Rattle.rb_record.specs.Record.{record_of}
 use Rattle.rb_plain.specs.Stuck.{stuck_turn}
 use Rattle.rb_plain.specs.declared.stuck.StuckTurn.{StuckTurn}
 use Rattle.rb_syntax.specs.Plain.{tree}

@@ -7,7 +7,7 @@ ghost use Rattle.rb_tell.specs.Reasons.{asked_of, number_of, AreNames, HasNames,
 ghost use Rattle.rb_judge.specs.Judged.{IsJudged};
 ghost use Rattle.rb_plain.specs.Stuck.{stuck_turn};
 ghost use Rattle.rb_syntax.specs.Plain.{tree};
-ghost use Rattle.rb_why.specs.Frame.{framed_alone};
+ghost use Rattle.rb_frame.specs.Frame.{framed_alone};
 ghost use Rattle.rb_why.specs.Phrases.{long_words};
 ghost use Rattle.rb_why.specs.Text.{text_told};
 
@@ -17,8 +17,8 @@ use rb_base::{FaultName, MOST_BYTES, Names, SourceFault, TextFault};
 use rb_image::read_image;
 use rb_judge::{Judged, judge};
 use rb_outside::Shelf;
-use rb_plain::record::Record;
 use rb_plain::{StuckTurn, stuck_cause};
+use rb_record::Record;
 use rb_top::Words;
 use rb_top::read::read_file;
 use rb_why::{file_reason, long_reason, names_process, source_reason, stuck_reason, text_reason};

@@ -1,7 +1,7 @@
-//! Tests of records (rb_plain): the turns that a text lists.
+//! Tests of records (rb_record): the turns that a text lists.
 
 use rb_base::{Kept, Memory, Names, ProcessNames, Text};
-use rb_plain::record::{Record, RecordRefusal};
+use rb_record::{Record, RecordRefusal};
 use std::alloc::Global;
 
 fn process(alloc: Global, name: &[u8]) -> Result<ProcessNames, Memory> {

@@ -12,7 +12,7 @@ use Rattle.rb_meaning.specs.PlainRun.{plain_text}
 use Rattle.rb_sched.specs.Schedule.{schedule_of}
 use Rattle.rb_syntax.specs.Tree.{Tree}
 use Rattle.rb_judge.specs.Verdict.{IsAccepted, IsRefusedFor}
-use Rattle.rb_plain.specs.Record.{record_of}
+use Rattle.rb_record.specs.Record.{record_of}
 use Rattle.rb_make.specs.Trial.{schedule_of as made_schedule, source_of}
 use Rattle.rb_stuck.specs.Programs.{tree_standing_text}
 use Rattle.rb_picture.specs.Meant.{tree_trace_text}

@@ -5,7 +5,7 @@ use Rattle.rb_meaning.specs.Groups.{groups_of}
 use Rattle.rb_meaning.specs.Meaning.{run_text}
 use Rattle.rb_meaning.specs.PlainRun.{plain_text}
 use Rattle.rb_make.specs.Trial.{schedule_of as made_schedule, source_of}
-use Rattle.rb_plain.specs.Record.{record_of}
+use Rattle.rb_record.specs.Record.{record_of}
 use Rattle.rb_base.specs.declared.kept.Kept.{Kept}
 use Rattle.rb_base.specs.declared.limits.TheConstants.{MOST_BYTES}
 use Rattle.rb_sched.specs.Schedule.{schedule_of}

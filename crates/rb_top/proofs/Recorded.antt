@@ -13,12 +13,12 @@ use Rattle.rb_base.specs.declared.kept.Kept.{Kept}
 use Rattle.rb_meaning.specs.PlainRun.{plain_text}
 use Rattle.rb_judge.specs.Judged.{IsJudged}
 use Rattle.rb_judge.specs.declared.judging.Judged.{Judged}
-use Rattle.rb_plain.specs.Record.{record_of}
-use Rattle.rb_plain.specs.Recorded.{IsRefusedFor}
-use Rattle.rb_plain.specs.declared.record.RecordRefusal.{RecordRefusal}
+use Rattle.rb_record.specs.Record.{record_of}
+use Rattle.rb_record.specs.Recorded.{IsRefusedFor}
+use Rattle.rb_record.specs.declared.record.RecordRefusal.{RecordRefusal}
 use Rattle.rb_plain.specs.Members.{HasMembers}
 use Rattle.rb_plain.specs.Played.{Plays}
-use Rattle.rb_plain.specs.declared.answer.PlainAnswer.TheVariants.{Memory}
+use Rattle.rb_levels.specs.declared.answer.PlainAnswer.TheVariants.{Memory}
 use Rattle.rb_top.specs.Stages.{WritingStageEnds}
 use Rattle.rb_top.specs.declared.status.Status.TheVariants as status
 use Rattle.rb_top.specs.Judgement.{RefusedWith, Writes, PlainGoesOn, plays, record_refused, long_record, bad_record, stuck_record, names_of, text_line, stuck_line, too_long_line}

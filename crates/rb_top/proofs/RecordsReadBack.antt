@@ -22,8 +22,8 @@ use Rattle.rb_world.proofs.Members.PlaceFacts.{position_first}
 use Rattle.rb_scope.specs.Limits.{AreDistinct}
 use Rattle.rb_scope.proofs.DistinctNames.{same_itself}
 use Rattle.rb_sched.specs.Schedule.{end_word, is_space, lines_from, lines_of, without_comment, without_cr, words_from, words_of}
-use Rattle.rb_plain.specs.Record.{after_line, in_front, is_counted, kept_after, line_of_words, lines_kept, record_of}
-use Rattle.rb_plain.specs.Recorded.{AreKept, IsKept}
+use Rattle.rb_record.specs.Record.{after_line, in_front, is_counted, kept_after, line_of_words, lines_kept, record_of}
+use Rattle.rb_record.specs.Recorded.{AreKept, IsKept}
 
 -- ---- bytes of names
 

@@ -22,8 +22,8 @@ use Rattle.rb_scope.specs.Spelled.{ProcessSpelled}
 use Rattle.rb_judge.specs.Verdict.{IsAccepted}
 use Rattle.rb_judge.proofs.Accepted.{accepted_have_distinct_names, of_accepted}
 use Rattle.rb_judge.proofs.Spelling.{accepted_are_spelled}
-use Rattle.rb_plain.specs.Record.{record_of}
-use Rattle.rb_plain.specs.Recorded.{AreKept}
+use Rattle.rb_record.specs.Record.{record_of}
+use Rattle.rb_record.specs.Recorded.{AreKept}
 use Rattle.rb_top.specs.Judgement.{names_of, survivors_text}
 use Rattle.rb_top.proofs.KeptTurns.{AreProcesses, AreTurns, run_before}
 use Rattle.rb_top.proofs.RecordsReadBack.{AreNames, names_in, records_read_back}

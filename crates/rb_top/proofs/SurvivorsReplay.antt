@@ -5,7 +5,7 @@ use Rattle.rb_meaning.specs.Laws.{IsErasedInText}
 use Rattle.rb_meaning.specs.Meaning.{run_of, run_text, survivors}
 use Rattle.rb_meaning.proofs.Trees.ErasedText.{erasure_in_text}
 use Rattle.rb_judge.proofs.Accepted.{of_accepted}
-use Rattle.rb_plain.specs.Record.{record_of}
+use Rattle.rb_record.specs.Record.{record_of}
 use Rattle.rb_sched.proofs.Walk.{turns_known}
 use Rattle.rb_world.proofs.ListFacts.{heads_same, tails_same}
 use Rattle.rb_top.specs.Judgement.{Judgement, Writes, Accepted, names_of, ScheduleRuns, JudgesSource, at_first, first_refused, first_accepted}

@@ -29,7 +29,7 @@ use Rattle.rb_code.specs.WordMachine.WordRun.{word_text}
 use Rattle.rb_image.specs.Image.{image_of}
 use Rattle.rb_image.specs.Laws.{IsImage, IsNoImage}
 use Rattle.rb_sched.specs.Schedule.{schedule_of}
-use Rattle.rb_plain.specs.Record.{record_of}
+use Rattle.rb_record.specs.Record.{record_of}
 use Rattle.rb_make.specs.Trial.{processes_of, schedule_of as made_schedule, source_of}
 use Rattle.rb_run.specs.Counting.{Counted, told_counts}
 use Rattle.rb_domino.specs.History.{Story, history_of}

@@ -3,8 +3,8 @@ ghost use Rattle.std.specs.Prelude.{◌≡◌, ◌≤◌, ℕ, List, [], ◌∷�
 ghost use Rattle.rb_base.specs.declared.limits.TheConstants.{MOST_BYTES};
 ghost use Rattle.rb_judge.specs.Judged.{IsJudged};
 ghost use Rattle.rb_syntax.specs.Plain.{tree};
-ghost use Rattle.rb_plain.specs.Record.{record_of};
-ghost use Rattle.rb_plain.specs.Recorded.{IsRefusedFor};
+ghost use Rattle.rb_record.specs.Record.{record_of};
+ghost use Rattle.rb_record.specs.Recorded.{IsRefusedFor};
 ghost use Rattle.rb_top.specs.Words.{plain_of, text_named};
 ghost use Rattle.rb_top.specs.Answers.{scene_of, before_start, WithRequest};
 ghost use Rattle.rb_top.specs.Judgement.{PlainGoesOn, names_of};
@@ -17,9 +17,10 @@ use crate::source::judged_source;
 use crate::status::{Status, status_after};
 use rb_base::MOST_BYTES;
 use rb_judge::Judged;
+use rb_levels::PlainAnswer;
 use rb_outside::{Shelf, Sink};
-use rb_plain::record::{Record, RecordRefusal};
-use rb_plain::{PlainAnswer, plain};
+use rb_plain::plain;
+use rb_record::{Record, RecordRefusal};
 use std::alloc::Global;
 
 /// Reads and judges a source, then a record for it, and writes the text of the plain run of the one over the other.

@@ -7,7 +7,7 @@ use Rattle.rb_code.specs.SoundCode.Reached.{Reached}
 use Rattle.rb_code.specs.SoundCode.Sound.{Entry, Has, HasTable, IsWeaker, Table}
 use Rattle.rb_code.specs.SoundCode.WellFormed.{IsSound, IsWellFormed, Joins, JoinsOnce, LoopsStayOpen}
 use Rattle.rb_code.specs.SoundCode.Sound.{IsOpen}
-use Rattle.rb_verify.specs.Search.{HasEntry, HasNoTable, IsFound}
+use Rattle.rb_search.specs.Search.{HasEntry, HasNoTable, IsFound}
 
 -- an entry that is weaker
 record Weak (t : Table) (a : ℕ) (e : Entry) : Type 0 where

@@ -4,17 +4,17 @@ ghost use Rattle.std.specs.Prelude.{◌≡◌, ◌<◌, length, map, IfOk, IfErr
 ghost use Rattle.rb_code.specs.Instructions.Plain.{code as plain};
 ghost use Rattle.rb_code.specs.SoundCode.WellFormed.{IsSound, IsWellFormed};
 ghost use Rattle.rb_conv.specs.Conversations.{Conversation, memberships, opening};
-ghost use Rattle.rb_verify.specs.Ends.{AreEnds};
-ghost use Rattle.rb_verify.specs.Found.{found, IfUnsound};
-ghost use Rattle.rb_verify.specs.Search.{IsFound};
+ghost use Rattle.rb_flow.specs.Ends.{AreEnds};
+ghost use Rattle.rb_search.specs.Found.{found, IfUnsound};
+ghost use Rattle.rb_search.specs.Search.{IsFound};
 
-use crate::cell::Refusal;
-use crate::ends::{Ends, all_ends};
-use crate::joining::{joinings, members_join_once};
-use crate::search::{Known, find_table};
-use crate::staying::loops_stay_open;
 use rb_base::Nested;
 use rb_code::Code;
+use rb_flow::ends::{Ends, all_ends};
+use rb_search::joining::{joinings, members_join_once};
+use rb_search::refusal::Refusal;
+use rb_search::search::{Known, find_table};
+use rb_search::staying::loops_stay_open;
 use std::alloc::Global;
 
 /// Decides whether code is sound with its conversations, where its lists are well formed. `Unsound` says that it is not.

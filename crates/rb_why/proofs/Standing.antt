@@ -6,7 +6,7 @@ use Rattle.rb_grammar.specs.Verdict.{HasTree, RefusedFor}
 use Rattle.rb_syntax.specs.Tree.{Tree}
 use Rattle.rb_parse.proofs.Verdicts.{has_one_verdict}
 use Rattle.rb_why.specs.Expected.{IsRefusedBehind, front_behind}
-use Rattle.rb_why.specs.Tokens.{is_place}
+use Rattle.rb_frame.specs.Places.{is_place}
 
 -- a source that has a tree is refused nowhere
 pub stands_with_tree : (source : List ℕ) (line : ℕ) (tree : Tree) → HasTree source tree → IsRefusedBehind source line → ⊥

@@ -6,7 +6,7 @@ use Rattle.std.proofs.lemmas.Bool.Decides.{nat_tests}
 use Rattle.std.proofs.Math.Seq.{take-length}
 use Rattle.rb_why.specs.Expected.{GoesOn, IsOther, MayStand, Tells, TellsTried, tried}
 use Rattle.rb_why.specs.Likeness.{reads_like_schedule}
-use Rattle.rb_why.specs.Lines.{before}
+use Rattle.rb_frame.specs.Lines.{before}
 use Rattle.rb_why.specs.Source.{SaysStray, stray_words, with_expected}
 use Rattle.rb_why.specs.declared.expected.TheConstants.{MOST_TRIED}
 

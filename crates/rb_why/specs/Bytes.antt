@@ -5,7 +5,7 @@ use Rattle.std.specs.Cmp.Lexicographic.{pointwise}
 use Rattle.rb_base.specs.declared.fault.FaultName.TheVariants.{X1, X2}
 use Rattle.rb_base.specs.declared.place.Place.{Place}
 use Rattle.rb_sched.specs.Schedule.{without_cr}
-use Rattle.rb_why.specs.Lines.{before, line_at}
+use Rattle.rb_frame.specs.Lines.{before, line_at}
 use Rattle.rb_why.specs.Phrases.{sentence}
 
 -- whether a text begins with a byte order mark

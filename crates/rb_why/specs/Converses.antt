@@ -4,7 +4,7 @@ use Rattle.std.specs.List.{find}
 use Rattle.std.specs.Cmp.Lexicographic.{pointwise}
 use Rattle.rb_base.specs.declared.place.Place.{Place}
 use Rattle.rb_lex.specs.Tokens.{Lexeme}
-use Rattle.rb_why.specs.Tokens.{is_place}
+use Rattle.rb_frame.specs.Places.{is_place}
 use Rattle.rb_why.specs.declared.converses.Converse.{Converse}
 
 -- the innermost conversation of blocks that are open, the outermost first, each with its conversation if it has one

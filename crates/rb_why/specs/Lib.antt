@@ -1,5 +1,3 @@
-pub mod Lines
-pub mod Frame
 pub mod Phrases
 pub mod Tokens
 pub mod Listed

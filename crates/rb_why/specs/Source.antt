@@ -8,9 +8,9 @@ use Rattle.rb_base.specs.declared.place.Place.{Place}
 use Rattle.rb_lex.specs.TokenList.{tokens_of}
 use Rattle.rb_why.specs.Bytes.{byte_words, open_words}
 use Rattle.rb_why.specs.Expected.{TellsTried}
-use Rattle.rb_why.specs.Frame.{framed}
+use Rattle.rb_frame.specs.Frame.{framed}
 use Rattle.rb_why.specs.Likeness.{reads_like_schedule}
-use Rattle.rb_why.specs.Lines.{before}
+use Rattle.rb_frame.specs.Lines.{before}
 use Rattle.rb_why.specs.Nested.{elsewhere, lacking}
 use Rattle.rb_why.specs.Phrases.{sentence}
 use Rattle.rb_why.specs.Tokens.{text_at}

@@ -9,9 +9,9 @@ use Rattle.rb_base.specs.declared.kept.Kept.{Kept}
 use Rattle.rb_base.specs.declared.names.Names.{Names}
 use Rattle.rb_base.specs.declared.place.Place.{Place}
 use Rattle.rb_sched.specs.Schedule.{lines_of, without_comment, without_cr}
-use Rattle.rb_plain.specs.declared.stuck.StuckCause.{StuckCause}
-use Rattle.rb_plain.specs.declared.stuck.StuckCause.TheVariants.{Ended, AtLine, NothingStarts, OtherAlternate, NoRoom, NoMessage, TooDeep, TestFails, Traps}
-use Rattle.rb_why.specs.Frame.{framed}
+use Rattle.rb_levels.specs.declared.cause.StuckCause.{StuckCause}
+use Rattle.rb_levels.specs.declared.cause.StuckCause.TheVariants.{Ended, AtLine, NothingStarts, OtherAlternate, NoRoom, NoMessage, TooDeep, TestFails, Traps}
+use Rattle.rb_frame.specs.Frame.{framed}
 use Rattle.rb_why.specs.Text.{word_place}
 use Rattle.rb_why.specs.Words.{word_at}
 

@@ -9,9 +9,9 @@ use Rattle.rb_base.specs.declared.limits.TheConstants.{MOST_BYTES}
 use Rattle.rb_base.specs.declared.names.Names.{Names}
 use Rattle.rb_base.specs.declared.place.Place.{Place}
 use Rattle.rb_why.specs.Bytes.{carriage_return_words, has_inner_cr, has_order_mark, order_mark_words}
-use Rattle.rb_why.specs.Frame.{framed}
+use Rattle.rb_frame.specs.Frame.{framed}
 use Rattle.rb_why.specs.Likeness.{reads_like_source}
-use Rattle.rb_why.specs.Lines.{line_at}
+use Rattle.rb_frame.specs.Lines.{line_at}
 use Rattle.rb_why.specs.Listed.{listed}
 use Rattle.rb_why.specs.Phrases.{sentence}
 use Rattle.rb_why.specs.Words.{from_word, word_at, words_line}

@@ -1,11 +1,8 @@
 -- The token at a place.
-use Rattle.std.specs.Prelude.{ℕ, ◌==◌, Bool, ◌&&◌, cond, List, [], ◌∷◌}
+use Rattle.std.specs.Prelude.{ℕ, cond, List, [], ◌∷◌}
 use Rattle.rb_base.specs.declared.place.Place.{Place}
 use Rattle.rb_lex.specs.Tokens.{Lexeme}
-
--- whether two places are one
-abbrev pub is_place : Place → Place → Bool
-is_place p q = (p.line == q.line) && (p.column == q.column)
+use Rattle.rb_frame.specs.Places.{is_place}
 
 -- the text of the token at a place; nothing where none stands there
 abbrev pub text_at : Place → List Lexeme → List ℕ

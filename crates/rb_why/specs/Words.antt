@@ -1,7 +1,7 @@
 -- The words of a line of a schedule, a record, a session or a history.
 use Rattle.std.specs.Prelude.{ℕ, zero, suc, Bool, not, cond, List, [], ◌∷◌, take_while}
 use Rattle.rb_sched.specs.Schedule.{is_space, without_comment, without_cr}
-use Rattle.rb_why.specs.Lines.{line_at}
+use Rattle.rb_frame.specs.Lines.{line_at}
 
 -- what is no space between words
 abbrev pub is_of_word : ℕ → Bool

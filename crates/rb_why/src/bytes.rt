@@ -3,11 +3,11 @@
 ghost use Rattle.std.specs.Prelude.{◌≡◌, IfOk};
 ghost use Rattle.rb_why.specs.Bytes.{byte_words, carriage_return_words, front_byte_words, has_inner_cr, has_order_mark, open_words, order_mark_words, rest_words};
 
-use crate::joined::joined;
-use crate::lines::{before, line_at};
 use crate::phrases::sentence;
 use itoa::Buffer;
 use rb_base::{FaultName, Memory, Place};
+use rb_frame::joined::joined;
+use rb_frame::lines::{before, line_at};
 use rb_sched::words::without_cr;
 use std::alloc::Global;
 

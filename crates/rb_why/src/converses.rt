@@ -7,8 +7,8 @@ ghost use Rattle.std.specs.Prelude.{◌≡◌, None, map, option_map, slice_get,
 ghost use Rattle.rb_lex.specs.Reader.{lexeme_of};
 ghost use Rattle.rb_why.specs.Converses.{converse_at, converses_of, first_converse, has_text, innermost, name_around, stands_at};
 
-use crate::tokens::is_place;
 use rb_base::{Memory, Place};
+use rb_frame::places::is_place;
 use rb_lex::Token;
 use std::alloc::Global;
 

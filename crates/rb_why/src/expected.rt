@@ -8,14 +8,15 @@ ghost use Rattle.rb_lex.specs.TokenList.{tokens_of};
 ghost use Rattle.rb_why.specs.Tokens.{text_at};
 ghost use Rattle.rb_why.specs.Source.{SaysStray, stray_words, with_expected, with_list};
 
-use crate::joined::joined;
 use crate::likeness::reads_like_schedule;
-use crate::lines::before;
 use crate::listed::{quoted, with_word};
 use crate::phrases::sentence;
-use crate::tokens::{is_place, token_text};
+use crate::tokens::token_text;
 use rb_base::bytes::is_name;
 use rb_base::{FaultName, MOST_BYTES, Memory, Place, Refusal};
+use rb_frame::joined::joined;
+use rb_frame::lines::before;
+use rb_frame::places::is_place;
 use rb_lex::{Lexer, is_reserved};
 use rb_parse::parse;
 use std::alloc::Global;

@@ -2,12 +2,12 @@
 
 ghost use Rattle.std.specs.Prelude.{◌≡◌, codes, [], IfOk};
 ghost use Rattle.rb_base.specs.Words.{fault_word};
-ghost use Rattle.rb_why.specs.Frame.{framed_alone};
+ghost use Rattle.rb_frame.specs.Frame.{framed_alone};
 ghost use Rattle.rb_why.specs.Phrases.{long_words, sentence};
 
-use crate::frame::frame_alone;
 use crate::phrases::sentence;
 use rb_base::{FaultName, Memory};
+use rb_frame::frame::frame_alone;
 use std::alloc::Global;
 
 /// That a file has too many bytes.

@@ -4,8 +4,8 @@ ghost use Rattle.std.specs.Prelude.{◌≡◌, [], IfOk};
 ghost use Rattle.rb_base.specs.Naming.{process_names};
 ghost use Rattle.rb_why.specs.Listed.{listed, quoted, with_word};
 
-use crate::joined::joined;
 use rb_base::{Memory, Names};
+use rb_frame::joined::joined;
 use std::alloc::Global;
 
 /// The list with one more word.

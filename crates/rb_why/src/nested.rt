@@ -6,9 +6,9 @@ ghost use Rattle.rb_why.specs.Nested.{elsewhere, lacking, or_nothing, standing};
 ghost use Rattle.rb_why.specs.Converses.{converse_at, converses_of, first_converse, name_around};
 
 use crate::converses::{Converse, converse_at, converses, first_converse, name_around};
-use crate::joined::joined;
 use crate::tokens::text_at;
 use rb_base::{Memory, Place};
+use rb_frame::joined::joined;
 use rb_lex::Token;
 use std::alloc::Global;
 

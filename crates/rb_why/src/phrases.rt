@@ -3,8 +3,8 @@
 ghost use Rattle.std.specs.Prelude.{◌≡◌, ◌++◌, IfOk};
 ghost use Rattle.rb_why.specs.Phrases.{back_words, front_words, sentence};
 
-use crate::joined::joined;
 use rb_base::{FaultName, Memory};
+use rb_frame::joined::joined;
 use std::alloc::Global;
 
 /// The sentence about a fault, with what it is about: a name, a word or a number of the text.

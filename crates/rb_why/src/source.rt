@@ -7,11 +7,11 @@ ghost use Rattle.rb_why.specs.Source.{IsReason, Says, way_of};
 
 use crate::bytes::{byte_sentence, open_sentence};
 use crate::expected::stray_sentence;
-use crate::frame::frame;
 use crate::nested::{elsewhere_sentence, lacking_sentence};
 use crate::phrases::sentence;
 use crate::tokens::{token_text, tokens_of};
 use rb_base::{FaultName, MOST_BYTES, Memory, Place, SourceFault};
+use rb_frame::frame::frame;
 use std::alloc::Global;
 
 /// Which sentence a fault of a source has.

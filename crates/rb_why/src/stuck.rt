@@ -5,14 +5,14 @@ ghost use Rattle.rb_base.specs.Naming.{process_names};
 ghost use Rattle.rb_sched.specs.Schedule.{lines_of};
 ghost use Rattle.rb_why.specs.Stuck.{alternate_words, block_words, cause_words, has_turn, line_of_turn, name_at, sentence_about, stuck_told, stuck_words, turn_place, turn_words, wait_words};
 
-use crate::frame::frame;
-use crate::joined::joined;
 use crate::text::word_place;
 use crate::words::word_at;
 use itoa::Buffer;
 use rb_base::numbers::{is_number, number_value};
 use rb_base::{FaultName, Kept, MOST_BYTES, Memory, Names, Place, Text};
-use rb_plain::StuckCause;
+use rb_frame::frame::frame;
+use rb_frame::joined::joined;
+use rb_levels::StuckCause;
 use rb_sched::words::{first_line, without_comment, without_cr};
 use std::alloc::Global;
 

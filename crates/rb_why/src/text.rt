@@ -4,14 +4,14 @@ ghost use Rattle.std.specs.Prelude.{◌≡◌, option_map, IfOk};
 ghost use Rattle.rb_why.specs.Text.{is_about_word, line_words, names_process, subject, text_told, told_word, with_processes, word_place, word_words};
 
 use crate::bytes::{carriage_return_sentence, has_inner_cr, has_order_mark, order_mark_sentence};
-use crate::frame::frame;
-use crate::joined::joined;
 use crate::likeness::reads_like_source;
-use crate::lines::line_at;
 use crate::listed::processes_listed;
 use crate::phrases::sentence;
 use crate::words::{from_word, word_at, words_line};
 use rb_base::{FaultName, MOST_BYTES, Memory, Names, Place, TextFault};
+use rb_frame::frame::frame;
+use rb_frame::joined::joined;
+use rb_frame::lines::line_at;
 use std::alloc::Global;
 
 /// Why a text of this file is refused for the fault of one of its lines, with a mark under the word that it is about. The names are those

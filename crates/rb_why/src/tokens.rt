@@ -3,9 +3,10 @@
 ghost use Rattle.std.specs.Prelude.{◌≡◌, ◌≤◌, length, map, IfOk};
 ghost use Rattle.rb_lex.specs.Reader.{lexeme_of};
 ghost use Rattle.rb_lex.specs.TokenList.{tokens_of};
-ghost use Rattle.rb_why.specs.Tokens.{is_place, text_at};
+ghost use Rattle.rb_why.specs.Tokens.{text_at};
 
 use rb_base::{MOST_BYTES, Memory, Place};
+use rb_frame::places::is_place;
 use rb_lex::{Lexer, Token};
 use std::alloc::Global;
 
@@ -56,11 +57,4 @@ pub(crate) fn text_at<'a>(tokens: &[Token<'a>], place: Place) -> &'a [u8]
         rest = after;
     }
     &[]
-}
-
-/// Whether two places are one.
-pub(crate) fn is_place(one: Place, other: Place) -> bool
-    ensures { result ≡ is_place one other }
-{
-    one.line == other.line && one.column == other.column
 }

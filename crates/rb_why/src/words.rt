@@ -5,7 +5,7 @@ ghost use Rattle.rb_sched.specs.Schedule.{is_space};
 ghost use Rattle.std.specs.List.{prefix_len};
 ghost use Rattle.rb_why.specs.Words.{after_spaces, after_word, from_word, is_of_word, words_line, word_at};
 
-use crate::lines::line_at;
+use rb_frame::lines::line_at;
 use rb_sched::words::{without_comment, without_cr};
 
 /// The line of this number without its comment and its CR.

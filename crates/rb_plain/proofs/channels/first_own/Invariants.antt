@@ -1,7 +1,7 @@
 -- The levels before these are shared.
 use Rattle.std.proofs.Common.{◌≡◌, length, map}
 use Rattle.rb_world.specs.Channels.{seen_copy}
-use Rattle.rb_plain.specs.Worlds.{level_of}
+use Rattle.rb_levels.specs.Worlds.{level_of}
 use Rattle.rb_plain.proofs.channels.first_own.Given as goal
 
 abbrev pub invariant-loop-levels : goal.invariant-loop-levels

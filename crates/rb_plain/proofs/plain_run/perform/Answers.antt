@@ -4,9 +4,9 @@ use Rattle.rb_trace.specs.Naming.{naming}
 use Rattle.rb_world.specs.Text.{values_text}
 use Rattle.rb_meaning.specs.Meaning.{final_of}
 use Rattle.rb_meaning.specs.PlainRun.{PlainWorld}
-use Rattle.rb_plain.specs.declared.answer.PlainAnswer.TheVariants.{Memory}
+use Rattle.rb_levels.specs.declared.answer.PlainAnswer.TheVariants.{Memory}
 use Rattle.rb_plain.specs.Played.{outs_in, played, unkept_opening, world_in}
-use Rattle.rb_plain.specs.Worlds.{world_of}
+use Rattle.rb_levels.specs.Worlds.{world_of}
 use Rattle.rb_plain.proofs.Opening.{opened_named}
 use Rattle.rb_plain.proofs.OwnWords.{ends_lying}
 use Rattle.rb_plain.proofs.WholeText.{some_world, text_is}

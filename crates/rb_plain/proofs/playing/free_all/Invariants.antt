@@ -1,7 +1,7 @@
 use Rattle.std.proofs.Common.{◌≡◌, ◌++◌, map, drop, take}
 use Rattle.rb_syntax.specs.Plain.{tree}
 use Rattle.rb_world.specs.Turn.{freed}
-use Rattle.rb_plain.specs.Worlds.{process_of, unkept_kind}
+use Rattle.rb_levels.specs.Worlds.{process_of, unkept_kind}
 use Rattle.rb_plain.proofs.playing.free_all.Given as goal
 
 -- those so far hold no line, and the others are as they were

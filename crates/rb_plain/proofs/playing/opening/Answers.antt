@@ -1,8 +1,8 @@
 use Rattle.std.proofs.Common.{◌≡◌, ◌+◌, ◌<◌, ◌++◌, List, length, map, get_or, ap, ◌∙◌, arith}
 use Rattle.rb_syntax.specs.declared.program.Process.{Process as Declaration}
 use Rattle.rb_syntax.specs.Plain.{tree}
-use Rattle.rb_plain.specs.declared.process.Process.{Process}
-use Rattle.rb_plain.specs.Worlds.{process_of}
+use Rattle.rb_levels.specs.declared.process.Process.{Process}
+use Rattle.rb_levels.specs.Worlds.{process_of}
 use Rattle.rb_plain.proofs.Opening.{opened_from, opened_more}
 use Rattle.rb_plain.proofs.playing.opening.Goals as goal
 

@@ -1,6 +1,6 @@
 use Rattle.std.proofs.Common.{◌≡◌, ◌++◌, map}
 use Rattle.rb_syntax.specs.Plain.{tree}
-use Rattle.rb_plain.specs.Worlds.{process_of}
+use Rattle.rb_levels.specs.Worlds.{process_of}
 use Rattle.rb_plain.proofs.Opening.{opened_from}
 use Rattle.rb_plain.proofs.playing.opening.Given as goal
 

@@ -6,7 +6,7 @@ use Rattle.rb_world.specs.Text.{out_lines}
 use Rattle.rb_world.specs.Turn.{freed, freed_lines}
 use Rattle.rb_world.specs.World.{with_each}
 use Rattle.rb_plain.specs.Played.{outs_in, played}
-use Rattle.rb_plain.specs.Worlds.{unkept_kind, world_of}
+use Rattle.rb_levels.specs.Worlds.{unkept_kind, world_of}
 use Rattle.rb_plain.proofs.TurnsLeft.{outs_next, still_ends, still_stuck, turn_taken, turn_wanting}
 use Rattle.rb_plain.proofs.Writing.{next_wanting, writes_answered, writes_failed}
 use Rattle.rb_plain.proofs.playing.play.Goals as goal

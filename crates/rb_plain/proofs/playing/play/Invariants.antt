@@ -3,7 +3,7 @@ use Rattle.rb_syntax.specs.Plain.{tree}
 use Rattle.rb_trace.specs.Naming.{naming}
 use Rattle.rb_trace.proofs.Written.{Written}
 use Rattle.rb_plain.specs.Played.{outs_in, played, stuck_in, world_in}
-use Rattle.rb_plain.specs.Worlds.{world_of}
+use Rattle.rb_levels.specs.Worlds.{world_of}
 use Rattle.rb_plain.proofs.playing.play.Given as goal
 
 -- what is left is stuck nowhere, ends where the whole ends, and has the lines that are left to write

@@ -1,7 +1,7 @@
 use Rattle.std.proofs.Common.{◌∙◌}
 use Rattle.rb_syntax.specs.Plain.{tree}
 use Rattle.rb_plain.specs.Played.{played, stuck_in}
-use Rattle.rb_plain.specs.Worlds.{world_of}
+use Rattle.rb_levels.specs.Worlds.{world_of}
 use Rattle.rb_plain.proofs.TurnsLeft.{rehearsed, still_stuck, turn_answered, turn_taken}
 use Rattle.rb_plain.proofs.playing.take_all.Goals as goal
 

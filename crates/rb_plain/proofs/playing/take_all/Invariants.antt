@@ -1,7 +1,7 @@
 use Rattle.std.proofs.Common.{◌≡◌, drop}
 use Rattle.rb_syntax.specs.Plain.{tree}
 use Rattle.rb_plain.specs.Played.{played, stuck_in}
-use Rattle.rb_plain.specs.Worlds.{world_of}
+use Rattle.rb_levels.specs.Worlds.{world_of}
 use Rattle.rb_plain.proofs.playing.take_all.Given as goal
 
 -- what is left is stuck where the whole is

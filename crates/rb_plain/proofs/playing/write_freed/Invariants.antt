@@ -4,7 +4,7 @@ use Rattle.rb_trace.specs.Naming.{naming}
 use Rattle.rb_trace.proofs.Written.{Written}
 use Rattle.rb_world.specs.Text.{out_lines}
 use Rattle.rb_world.specs.Turn.{freed_lines}
-use Rattle.rb_plain.specs.Worlds.{unkept_kind, world_of}
+use Rattle.rb_levels.specs.Worlds.{unkept_kind, world_of}
 use Rattle.rb_plain.proofs.playing.write_freed.Given as goal
 
 -- the lines of the processes from this one on are left to write

@@ -1,6 +1,6 @@
 -- The world that a turn comes to, once lines are released.
 use Rattle.rb_syntax.specs.Plain.{tree}
-use Rattle.rb_plain.specs.Worlds.{world_of}
+use Rattle.rb_levels.specs.Worlds.{world_of}
 use Rattle.rb_plain.proofs.WholeTurns.{turn_on}
 use Rattle.rb_plain.proofs.stuck.advance.Goals as goal
 

@@ -1,7 +1,7 @@
 use Rattle.std.proofs.Common.{◌≡◌, drop}
 use Rattle.rb_syntax.specs.Plain.{tree}
 use Rattle.rb_plain.specs.Stuck.{stuck_among}
-use Rattle.rb_plain.specs.Worlds.{world_of}
+use Rattle.rb_levels.specs.Worlds.{world_of}
 use Rattle.rb_plain.proofs.stuck.stuck_among.Given as goal
 
 -- what is found among the turns that are left is what is found among all

@@ -2,7 +2,7 @@
 use Rattle.std.proofs.Common.{map, option_map, slice_get, ap, sym, ◌∙◌}
 use Rattle.std.specs.List.{list_all}
 use Rattle.rb_world.specs.Turn.{stands_there}
-use Rattle.rb_plain.specs.Worlds.{process_of}
+use Rattle.rb_levels.specs.Worlds.{process_of}
 use Rattle.rb_plain.proofs.TestLines.{all_stand_is, members_in}
 use Rattle.rb_plain.proofs.test_line.do_all_stand.Goals as goal
 

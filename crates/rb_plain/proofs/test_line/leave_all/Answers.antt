@@ -1,7 +1,7 @@
 -- One more process leaves the line.
 use Rattle.rb_syntax.specs.Plain.{tree}
 use Rattle.rb_world.specs.Turn.{leaves}
-use Rattle.rb_plain.specs.Worlds.{unkept_kind}
+use Rattle.rb_levels.specs.Worlds.{unkept_kind}
 use Rattle.rb_plain.proofs.TestLines.{one_more}
 use Rattle.rb_plain.proofs.test_line.leave_all.Goals as goal
 

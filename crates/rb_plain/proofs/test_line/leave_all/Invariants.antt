@@ -2,7 +2,7 @@
 use Rattle.std.proofs.Common.{◌≡◌, ◌++◌, map, take, drop}
 use Rattle.rb_syntax.specs.Plain.{tree}
 use Rattle.rb_world.specs.Turn.{leaves}
-use Rattle.rb_plain.specs.Worlds.{process_of, unkept_kind}
+use Rattle.rb_levels.specs.Worlds.{process_of, unkept_kind}
 use Rattle.rb_plain.proofs.test_line.leave_all.Given as goal
 
 abbrev pub invariant-loop-process : goal.invariant-loop-process

@@ -3,9 +3,9 @@ use Rattle.std.proofs.Common.{Some, Ok, ap, sym, ◌∙◌, subst}
 use Rattle.rb_syntax.specs.Plain.{recovery_block, tree}
 use Rattle.rb_world.specs.World.{settled}
 use Rattle.rb_walk.specs.Items.{IsFirst}
-use Rattle.rb_plain.specs.Moves.{started_by}
+use Rattle.rb_levels.specs.Moves.{started_by}
 use Rattle.rb_walk.specs.States.{state_of}
-use Rattle.rb_plain.specs.Worlds.{process_of, unkept_kind, world_of}
+use Rattle.rb_levels.specs.Worlds.{process_of, unkept_kind, world_of}
 use Rattle.rb_plain.proofs.ActedWorlds.{ended, end_given, starts}
 use Rattle.rb_plain.proofs.MovedProcesses.{moved_there}
 use Rattle.rb_plain.proofs.turn.act.Goals as goal

@@ -3,9 +3,9 @@ use Rattle.std.proofs.Common.{◌≡◌, ℤ, false, Some, Ok, Err, ap, sym, ◌
 use Rattle.std.proofs.lemmas.Option.{get_or_from_slice_get}
 use Rattle.rb_syntax.specs.Plain.{recovery_block, tree}
 use Rattle.rb_meaning.specs.Value.{is_zero}
-use Rattle.rb_plain.specs.declared.process.Process.{Process}
+use Rattle.rb_levels.specs.declared.process.Process.{Process}
 use Rattle.rb_walk.specs.Comes.{Judges}
-use Rattle.rb_plain.specs.Worlds.{process_of, world_of}
+use Rattle.rb_levels.specs.Worlds.{process_of, world_of}
 use Rattle.rb_plain.proofs.ActedWorlds.{fails, holds, tested_in}
 use Rattle.rb_plain.proofs.turn.judge.Goals as goal
 

@@ -2,8 +2,8 @@
 use Rattle.std.proofs.Common.{None, not, get_or, ap, sym, ◌∙◌}
 use Rattle.std.proofs.lemmas.Option.{slice_get-get_or}
 use Rattle.rb_syntax.specs.Plain.{command, recovery_block, tree}
-use Rattle.rb_plain.specs.Moves.{entered_by, performed_by}
-use Rattle.rb_plain.specs.Worlds.{process_of, world_of}
+use Rattle.rb_levels.specs.Moves.{entered_by, performed_by}
+use Rattle.rb_levels.specs.Worlds.{process_of, world_of}
 use Rattle.rb_plain.proofs.ActedWorlds.{acts, enters, may_receive, receives, sends}
 use Rattle.rb_plain.proofs.MovedProcesses.{moved_there}
 use Rattle.rb_plain.proofs.turn.perform.Goals as goal
@@ -37,7 +37,7 @@ returns-in-Level c = λ one there.
     let plain = tree c.args.program.now in
     let processes = c.args.processes.now in
     let block = recovery_block c.in-Level.block.now in
-    moved_there plain c.args.kept processes one c.index-processes-p.result there (entered_by plain block) c.enter.new.self c.enter.result
+    moved_there plain c.args.kept processes one c.index-processes-p.result there (entered_by plain block) c.enter.new.process c.enter.result
     (enters plain c.args.kept (process_of one) (world_of plain processes) c.requires.alternate (command c.args.statement.now)
     (c.requires.first one there).1 block c.in-Level.ensures)
     c.enter.ensures

@@ -1,6 +1,6 @@
 -- The process that was looked up, and what its turn comes to.
 use Rattle.rb_syntax.specs.Plain.{tree}
-use Rattle.rb_plain.specs.Worlds.{world_of}
+use Rattle.rb_levels.specs.Worlds.{world_of}
 use Rattle.rb_plain.proofs.TurnsMoved.{stuck, turned}
 use Rattle.rb_plain.proofs.turn.take_turn.Goals as goal
 

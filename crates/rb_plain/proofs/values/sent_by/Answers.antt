@@ -2,7 +2,7 @@ use Rattle.std.proofs.Common.{◌∙◌, ℕ, length, Some, None, ap, slice_get}
 use Rattle.rb_syntax.specs.Plain.{tree}
 use Rattle.rb_meaning.specs.Meaning.{by_state, sent_on, states_of}
 use Rattle.rb_meaning.specs.State.{State}
-use Rattle.rb_plain.specs.Worlds.{world_of}
+use Rattle.rb_levels.specs.Worlds.{world_of}
 use Rattle.rb_plain.proofs.Endings.{state_found}
 use Rattle.rb_plain.proofs.values.sent_by.Goals as goal
 

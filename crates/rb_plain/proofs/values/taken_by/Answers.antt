@@ -2,7 +2,7 @@ use Rattle.std.proofs.Common.{◌∙◌, ℕ, Some, None, ap, slice_get}
 use Rattle.rb_syntax.specs.Plain.{tree}
 use Rattle.rb_meaning.specs.Meaning.{by_state, taken_on, states_of}
 use Rattle.rb_meaning.specs.State.{State}
-use Rattle.rb_plain.specs.Worlds.{world_of}
+use Rattle.rb_levels.specs.Worlds.{world_of}
 use Rattle.rb_plain.proofs.Endings.{state_found}
 use Rattle.rb_plain.proofs.values.taken_by.Goals as goal
 

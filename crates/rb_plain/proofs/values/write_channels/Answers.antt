@@ -5,7 +5,7 @@ use Rattle.rb_trace.proofs.Written.{written_more, written_part}
 use Rattle.rb_world.specs.Text.{channel_lines}
 use Rattle.rb_meaning.specs.Groups.{channels_of}
 use Rattle.rb_meaning.specs.Meaning.{count_sent, count_taken, states_of}
-use Rattle.rb_plain.specs.Worlds.{world_of}
+use Rattle.rb_levels.specs.Worlds.{world_of}
 use Rattle.rb_plain.proofs.Endings.{next_channel}
 use Rattle.rb_plain.proofs.values.write_channels.Goals as goal
 

@@ -4,7 +4,7 @@ use Rattle.rb_trace.proofs.Written.{Written}
 use Rattle.rb_world.specs.Text.{channel_lines}
 use Rattle.rb_meaning.specs.Groups.{channels_of}
 use Rattle.rb_meaning.specs.Meaning.{count_sent, count_taken, states_of}
-use Rattle.rb_plain.specs.Worlds.{world_of}
+use Rattle.rb_levels.specs.Worlds.{world_of}
 use Rattle.rb_plain.proofs.values.write_channels.Given as goal
 
 -- the channels from this one on are left to write

@@ -5,9 +5,9 @@ use Rattle.rb_trace.specs.Naming.{naming, process_naming}
 use Rattle.rb_world.specs.Text.{channel_lines, value_lines, values_text}
 use Rattle.rb_meaning.specs.Groups.{channels_of}
 use Rattle.rb_meaning.specs.Meaning.{count_sent, count_taken, final_of, states_of}
-use Rattle.rb_plain.specs.declared.answer.PlainAnswer.TheVariants.{WriteFault}
+use Rattle.rb_levels.specs.declared.answer.PlainAnswer.TheVariants.{WriteFault}
 use Rattle.rb_plain.specs.Played.{ProcessesLie, words_of_all}
-use Rattle.rb_plain.specs.Worlds.{world_of}
+use Rattle.rb_levels.specs.Worlds.{world_of}
 use Rattle.rb_plain.proofs.Endings.{words_same}
 use Rattle.rb_plain.proofs.Writing.{puts_failed, puts_well, writes_answered, writes_both, writes_same, writes_stopped}
 use Rattle.rb_plain.proofs.values.write_values.Goals as goal

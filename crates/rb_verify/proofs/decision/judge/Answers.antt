@@ -1,11 +1,11 @@
 use Rattle.std.proofs.Common.{List, sym, ap, ◌∙◌}
 use Rattle.rb_code.specs.Instructions.Plain.{code as plain}
 use Rattle.rb_conv.specs.Conversations.{memberships, opening}
-use Rattle.rb_verify.specs.Found.{found}
-use Rattle.rb_verify.specs.Joinings.{groups_join}
-use Rattle.rb_verify.specs.declared.joining.Joining.{Joining}
+use Rattle.rb_search.specs.Found.{found}
+use Rattle.rb_search.specs.Joinings.{groups_join}
+use Rattle.rb_search.specs.declared.joining.Joining.{Joining}
 use Rattle.rb_verify.proofs.Judging.{as_many, is_sound, joins_fail, loops_leave}
-use Rattle.rb_verify.proofs.MembersJoin.{counts, join_fails, join_once}
+use Rattle.rb_search.proofs.MembersJoin.{counts, join_fails, join_once}
 use Rattle.rb_verify.proofs.decision.judge.Goals as goal
 
 pub returns-then-not-loops_stay_open-clause-unsound : goal.returns-then-not-loops_stay_open-clause-unsound

@@ -4,7 +4,7 @@ use Rattle.std.proofs.lemmas.Result.{IfOk-weaker}
 use Rattle.rb_base.specs.Words.{fault_word}
 use Rattle.rb_base.specs.declared.fault.FaultName.TheVariants.{V4}
 use Rattle.rb_base.specs.declared.place.Place.{Place}
-use Rattle.rb_why.specs.Frame.{framed}
+use Rattle.rb_frame.specs.Frame.{framed}
 use Rattle.rb_why.specs.Stuck.{turn_place}
 use Rattle.rb_why.proofs.stuck.stuck_reason.Goals as goal
 

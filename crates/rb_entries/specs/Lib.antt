@@ -1,0 +1,3 @@
+-- What is known at an address.
+pub mod Parts
+pub mod Join

@@ -1,0 +1,13 @@
+pub mod Tests
+pub mod Weaker
+pub mod FlowIsFine
+pub mod Monotone
+pub mod Going
+pub mod Places
+pub mod Growing
+pub mod Stacking
+pub mod Blocking
+pub mod Chosen
+pub mod LoopEnds
+pub mod Members
+pub mod Starting

@@ -1,0 +1,14 @@
+use Rattle.std.proofs.Common.{◌≡◌, ◌++◌, length, map}
+use Rattle.rb_syntax.specs.Tree.{Identifier}
+use Rattle.rb_syntax.specs.Plain.{identifier, tree}
+use Rattle.rb_meaning.specs.Groups.{process_number}
+use Rattle.rb_nesting.proofs.nesting.numbers.Given as goal
+
+-- those so far, and those of the others
+abbrev pub invariant-names : goal.invariant-names
+invariant-names l =
+    let number = λ (name : Identifier). process_number (tree l.program) name.text in
+    l.numbers.items ++ map number (map identifier l.rest) ≡ map number (map identifier l.fn.names)
+
+abbrev pub decreases-names : goal.decreases-names
+decreases-names l = length l.rest

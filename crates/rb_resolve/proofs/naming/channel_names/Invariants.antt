@@ -1,0 +1,13 @@
+use Rattle.std.proofs.Common.{◌≡◌, ◌++◌, length, map}
+use Rattle.rb_syntax.specs.Tree.{ChannelDeclaration}
+use Rattle.rb_syntax.specs.Plain.{channel_declaration}
+use Rattle.rb_resolve.proofs.naming.channel_names.Given as goal
+
+-- those so far, and the others
+abbrev pub invariant-channels : goal.invariant-channels
+invariant-channels l =
+    l.names.items ++ map (λ (c : ChannelDeclaration). c.name.text) (map channel_declaration l.rest)
+    ≡ map (λ (c : ChannelDeclaration). c.name.text) (map channel_declaration l.fn.channels)
+
+abbrev pub decreases-channels : goal.decreases-channels
+decreases-channels l = length l.rest

@@ -1,0 +1,2 @@
+-- What spots in memory stand for, on the walk over a tree.
+pub mod Memory

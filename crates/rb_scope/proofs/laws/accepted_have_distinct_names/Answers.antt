@@ -1,5 +1,0 @@
-use Rattle.rb_scope.proofs.DistinctNames.{have_distinct_names}
-use Rattle.rb_scope.proofs.laws.accepted_have_distinct_names.Goals as goal
-
-pub returns : goal.returns
-returns c = have_distinct_names

@@ -1,5 +1,0 @@
-use Rattle.rb_scope.proofs.Determined.{slots_are_determined}
-use Rattle.rb_scope.proofs.laws.slots_are_determined.Goals as goal
-
-pub returns : goal.returns
-returns c = slots_are_determined

@@ -1,0 +1,11 @@
+pub mod Joins
+pub mod Led
+pub mod Searching
+pub mod Waiting
+pub mod Finding
+pub mod Keeping
+pub mod Alternates
+pub mod Beginning
+pub mod Weights
+pub mod LoopsStay
+pub mod MembersJoin

@@ -1,0 +1,6 @@
+use Rattle.std.proofs.lemmas.List.Sorted.{IsPermutation-map}
+use Rattle.rb_search.specs.Waiting.{waiting}
+use Rattle.rb_search.proofs.work.pop_from.Goals as goal
+
+pub returns : goal.returns
+returns c = IsPermutation-map waiting _ _ c.in-Some.ensures.permutation

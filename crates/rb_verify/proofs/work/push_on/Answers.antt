@@ -1,6 +1,0 @@
-use Rattle.std.proofs.lemmas.List.Sorted.{IsPermutation-map}
-use Rattle.rb_verify.specs.Waiting.{waiting}
-use Rattle.rb_verify.proofs.work.push_on.Goals as goal
-
-pub returns : goal.returns
-returns c = IsPermutation-map waiting _ _ c.in_ok-push.ensures.permutation
