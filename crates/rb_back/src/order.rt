@@ -15,7 +15,7 @@ use rb_sched::words::{next_word, without_comment, without_cr};
 pub const MOST_STEPS: u32 = 1_000_000;
 
 /// What a line asks for: so many turns forth, so many turns back, or to show a process.
-#[derive(Clone, Copy, Debug, PartialEq, Eq)]
+#[derive(Clone, Copy)]
 pub enum Order {
     Forth(u32),
     Back(u32),

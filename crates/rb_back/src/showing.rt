@@ -19,7 +19,7 @@ use rb_sched::Schedule;
 use std::sync::ledger::Ledger;
 
 /// Why a script was not followed to its end.
-#[derive(Clone, Copy, Debug, PartialEq, Eq)]
+#[derive(Clone, Copy)]
 pub enum Stopped {
     /// A write failed.
     WriteFault,

@@ -3,7 +3,7 @@
 use rb_base::Place;
 
 /// What a token is. A name that the edition reserves is a `Word`.
-#[derive(Clone, Copy, Debug, PartialEq, Eq)]
+#[derive(Clone, Copy)]
 pub enum Kind {
     Name,
     Word,

@@ -19,7 +19,7 @@ use rb_code::Code;
 use std::alloc::Global;
 
 /// Why a code is refused.
-#[derive(Clone, Copy, Debug, PartialEq, Eq)]
+#[derive(Clone, Copy)]
 pub enum Refusal {
     /// It isn't sound.
     Unsound,

@@ -23,11 +23,11 @@ pub use sink::Sink;
 use std::alloc::AllocError;
 
 /// A read or a write failed. The object's count of faults says that it did.
-#[derive(Clone, Copy, Debug, PartialEq, Eq)]
+#[derive(Clone, Copy)]
 pub struct Failed;
 
 /// Want of memory.
-#[derive(Clone, Copy, Debug, PartialEq, Eq)]
+#[derive(Clone, Copy)]
 pub struct Memory;
 
 impl From<AllocError> for Memory {

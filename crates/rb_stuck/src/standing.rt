@@ -1,7 +1,7 @@
 //! How a run stands.
 
 /// Whether a run still goes on.
-#[derive(Clone, Copy, Debug, PartialEq, Eq)]
+#[derive(Clone, Copy)]
 pub enum Standing {
     /// Every process is done or has failed.
     Ended,

@@ -5,7 +5,7 @@ ghost use Rattle.rb_top.specs.Ending.{status_number};
 use rb_outside::Failed;
 
 /// How a command ends.
-#[derive(Clone, Copy, Debug, PartialEq, Eq)]
+#[derive(Clone, Copy)]
 pub enum Status {
     Done,
     Refused,
