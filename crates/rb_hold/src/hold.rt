@@ -116,6 +116,9 @@ impl Hold {
         ensures few { result ≤ MOST_HELD_BYTES }
         ensures none { self.new ≡ record self.old { released = [] } }
     {
+        if self.waiting == self.lines.len() {
+            return 0;
+        }
         let count = count_lines(&self.lines[self.waiting..]);
         self.waiting = self.lines.len();
         count

@@ -43,7 +43,7 @@ fn last_kept<L: Ledger>(alloc: Global, procs: &[Proc<L>]) -> Result<Vec<u32>, Me
 fn reach(alloc: Global, links: &[Link], wanted: &mut [u32]) -> Result<Vec<Kept>, Memory>
     ensures { IfOk result (λ kept. kept.items ≡ reached (map link_of (reverse links.now)) wanted.old) }
 {
-    let mut kept = Vec::new(alloc);
+    let mut kept = Vec::with_capacity(alloc, links.len())?;
     for link in links.iter().rev() {
         if follow(wanted, link) {
             kept.push(Kept {

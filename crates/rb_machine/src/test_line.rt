@@ -129,14 +129,16 @@ fn pass_line<L: Ledger>(
     })
 }
 
-// Whether every declared member of a conversation stands at its test line.
+// Whether every declared member of a conversation stands at its test line. The last one is asked first, as who comes late mostly is.
 #[inline(never)]
 fn all_stand<L: Ledger>(procs: &[Proc<L>], table: &Table, conversation: u32) -> bool
     requires { conversation < length table.now }
     ensures { (code : Plain) (memory : Common) → result ≡ all_stand (kind_with code table.now) conversation (world_of procs.now table.now memory) }
 {
-    for k in 0..table.members(conversation) {
-        if !stands_there(procs, table.member(conversation, k), conversation) {
+    let mut left = table.members(conversation);
+    while left > 0 {
+        left -= 1;
+        if !stands_there(procs, table.member(conversation, left), conversation) {
             return false;
         }
     }

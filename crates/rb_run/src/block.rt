@@ -7,9 +7,9 @@ use arrayvec::ArrayVec;
 use rb_outside::{Failed, Sink, put_all};
 
 /// How many bytes can wait.
-const ROOM: usize = 4096;
+const ROOM: usize = 1024;
 
-/// Bytes that wait, at most 4,096, so that many short texts cost one put.
+/// Bytes that wait, at most 1,024, so that many short texts cost one put.
 #[derive(Drop)]
 pub struct Block {
     pub bytes: ArrayVec<u8, ROOM>,

@@ -1,5 +1,5 @@
 -- Test lines, where they are passed and where not, in the world that the machine's parts stand for.
-use Rattle.std.proofs.Common.{◌≡◌, ℕ, zero, suc, ◌<◌, Bool, true, false, cond, ◌&&◌, List, [], ◌∷◌, length, map, take, slice_get, Option, Some, None, refl, ap, sym, ◌∙◌, subst, arith}
+use Rattle.std.proofs.Common.{◌≡◌, ℕ, zero, suc, ◌<◌, Bool, true, false, cond, ◌&&◌, List, [], ◌∷◌, length, map, drop, slice_get, Option, Some, None, refl, ap, sym, ◌∙◌, subst, arith}
 use Rattle.std.specs.List.{list_all}
 use Rattle.rb_base.specs.declared.event.Event.{Event}
 use Rattle.rb_base.specs.declared.event.Event.TheVariants.{Pass}
@@ -26,14 +26,12 @@ members_there [] d h = absurd (omega (arith, h))
 members_there (x ∷ xs) zero h = refl
 members_there (x ∷ xs) (suc d) h = members_there xs d (omega (arith, h))
 
--- a test that held of the first elements holds of one more
-pub all_more : {A : Type 0} (f : A → Bool) (xs : List A) (k : ℕ) (x : A) → list_all f (take k xs) ≡ true → slice_get xs k ≡ Some x → f x ≡ true
-    → list_all f (take (suc k) xs) ≡ true
-all_more f [] k x all e one = absurd (none_some e)
-all_more f (y ∷ ys) zero x all e one = ap (λ b. b && true) (ap f (some_same e) ∙ one)
-all_more f (y ∷ ys) (suc k) x all e one =
-    ap (λ b. b && list_all f (take (suc k) ys)) (first_holds (f y) (list_all f (take k ys)) all)
-    ∙ all_more f ys k x (second_holds (f y) (list_all f (take k ys)) all) e one
+-- a test that held of the elements behind one, and holds of it, holds from it on
+pub one_more : {A : Type 0} (f : A → Bool) (xs : List A) (k : ℕ) (x : A) → list_all f (drop (suc k) xs) ≡ true → slice_get xs k ≡ Some x
+    → f x ≡ true → list_all f (drop k xs) ≡ true
+one_more f [] k x all e one = absurd (none_some e)
+one_more f (y ∷ ys) zero x all e one = ap (λ b. b && list_all f ys) (ap f (some_same e) ∙ one) ∙ all
+one_more f (y ∷ ys) (suc k) x all e one = one_more f ys k x all e one
 
 -- and fails of all where it fails of one
 pub not_all : {A : Type 0} (f : A → Bool) (xs : List A) (k : ℕ) (x : A) → slice_get xs k ≡ Some x → f x ≡ false → list_all f xs ≡ false

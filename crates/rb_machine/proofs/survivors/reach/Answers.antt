@@ -6,8 +6,8 @@ use Rattle.std.proofs.lemmas.List.{length_push}
 use Rattle.rb_machine.proofs.Linking.ReachedLinks.{followed, passed_over}
 use Rattle.rb_machine.proofs.survivors.reach.Goals as goal
 
-pub loop-link-preserved-in-Continue-1 : goal.loop-link-preserved-in-Continue-1
-loop-link-preserved-in-Continue-1 c =
+pub loop-link-preserved-in-Continue-branch-2 : goal.loop-link-preserved-in-Continue-branch-2
+loop-link-preserved-in-Continue-branch-2 c =
     let all = YieldsList-from_rev_slice c.args.links.now cc in
     let t = YieldsList-turn all c.loop-link.yielded _ c.loop-link.yielded_by _ _ c.in-Some.link c.in-Some.is c.next.ensures.steps in
     followed (reverse c.args.links.now) (length c.loop-link.yielded) c.in-Some.link.now t.0 t.1 c.loop-link.wanted
