@@ -5,6 +5,8 @@ ghost use Rattle.rb_grammar.specs.Machine.{Advances};
 ghost use Rattle.rb_grammar.specs.Reading.{IsNotTaken};
 
 use rb_grammar::{Cursor, Stop, Terminal};
+use rb_syntax::Expr;
+use std::alloc::Global;
 
 /// Takes the token that closes what was read, which is to be of this terminal, and hands on what was read.
 pub(crate) fn closed<T: Drop>(
@@ -29,4 +31,13 @@ pub(crate) fn append<T: Drop>(list: &mut Vec<T>, entry: T) -> Result<(), Stop>
 {
     list.push(entry)?;
     Ok(())
+}
+
+/// An expression on the heap.
+pub(crate) fn boxed<'a>(alloc: Global, value: Expr<'a>) -> Result<Box<Expr<'a>>, Stop>
+    ensures ok { IfOk result (λ held. held.value ≡ value.entry) }
+    ensures memory { IfErr result (λ stop. stop ≡ Stop.Memory) }
+{
+    let held = Box::new(alloc, value)?;
+    Ok(held)
 }
