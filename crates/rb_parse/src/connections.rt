@@ -6,6 +6,7 @@ ghost use Rattle.rb_grammar.specs.Reading.{IsNotRead};
 ghost use Rattle.rb_syntax.specs.Plain.{channel_declaration, conversation_declaration};
 
 use crate::declarations::read_names;
+use crate::steps::{append, closed};
 use rb_grammar::{Cursor, Stop, Terminal, read_number};
 use rb_syntax::{Channel, Conversation};
 use std::alloc::Global;
@@ -36,10 +37,10 @@ pub(crate) fn read_connections<'a>(
     'connections: loop {
         if cursor.stands_at(Terminal::Channel) {
             let channel = read_channel(cursor)?;
-            channels.push(channel)?;
+            append(&mut channels, channel)?;
         } else if cursor.stands_at(Terminal::Conversation) {
             let conversation = read_conversation(alloc, cursor)?;
-            conversations.push(conversation)?;
+            append(&mut conversations, conversation)?;
         } else {
             return Ok(Connections {
                 channels,
@@ -60,13 +61,13 @@ fn read_channel<'a>(cursor: &mut Cursor<'a>) -> Result<Channel<'a>, Stop>
     let receiver = cursor.take_named(Terminal::To)?;
     cursor.take(Terminal::Size)?;
     let size = read_number(cursor)?;
-    cursor.take(Terminal::Semicolon)?;
-    Ok(Channel {
+    let channel = Channel {
         name,
         sender,
         receiver,
         size,
-    })
+    };
+    closed(cursor, channel, Terminal::Semicolon)
 }
 
 fn read_conversation<'a>(alloc: Global, cursor: &mut Cursor<'a>) -> Result<Conversation<'a>, Stop>

@@ -5,6 +5,7 @@ ghost use Rattle.rb_grammar.specs.Parts.{Part};
 ghost use Rattle.rb_grammar.specs.Reading.{IsNotRead};
 ghost use Rattle.rb_syntax.specs.Plain.{declaration, identifier};
 
+use crate::steps::{append, closed};
 use rb_grammar::{Cursor, Stop, Terminal, read_number};
 use rb_syntax::{Name, Number, Var};
 use std::alloc::Global;
@@ -22,7 +23,7 @@ pub(crate) fn read_declarations<'a>(
     let mut vars = Vec::new(alloc);
     'vars: while cursor.stands_at(Terminal::Var) {
         let var = read_declaration(cursor)?;
-        vars.push(var)?;
+        append(&mut vars, var)?;
     }
     Ok(vars)
 }
@@ -35,8 +36,7 @@ fn read_declaration<'a>(cursor: &mut Cursor<'a>) -> Result<Var<'a>, Stop>
 {
     let name = cursor.take_named(Terminal::Var)?;
     let size = read_size(cursor)?;
-    cursor.take(Terminal::Semicolon)?;
-    Ok(Var { name, size })
+    closed(cursor, Var { name, size }, Terminal::Semicolon)
 }
 
 fn read_size<'a>(cursor: &mut Cursor<'a>) -> Result<Option<Number>, Stop>
@@ -48,8 +48,7 @@ fn read_size<'a>(cursor: &mut Cursor<'a>) -> Result<Option<Number>, Stop>
     if cursor.stands_at(Terminal::OpenBracket) {
         cursor.take(Terminal::OpenBracket)?;
         let size = read_number(cursor)?;
-        cursor.take(Terminal::CloseBracket)?;
-        Ok(Some(size))
+        closed(cursor, Some(size), Terminal::CloseBracket)
     } else {
         Ok(None)
     }
@@ -63,14 +62,14 @@ pub(crate) fn read_names<'a>(alloc: Global, cursor: &mut Cursor<'a>) -> Result<V
     ensures shorter { OnOk result (length cursor.new.point.left < length cursor.old.point.left) }
 {
     let mut names = Vec::new(alloc);
-    let first = cursor.take_name()?;
-    names.push(first)?;
-    'names: while cursor.stands_at(Terminal::Comma) {
-        cursor.take(Terminal::Comma)?;
+    'names: loop {
         let name = cursor.take_name()?;
-        names.push(name)?;
+        append(&mut names, name)?;
+        if !cursor.stands_at(Terminal::Comma) {
+            return Ok(names);
+        }
+        cursor.take(Terminal::Comma)?;
     }
-    Ok(names)
 }
 
 /// Reads names with commas between them, if one stands here.

@@ -8,6 +8,7 @@ ghost use Rattle.rb_grammar.specs.Parts.{Part};
 ghost use Rattle.rb_grammar.specs.Reading.{IsNotRead};
 ghost use Rattle.rb_syntax.specs.Plain.{expression, links_of, reference, subscript};
 
+use crate::steps::{append, boxed, closed};
 use rb_grammar::{
     Cursor, Level, Operator, Stop, Terminal, Word, find_comparison, find_operator, find_quantifier,
     read_number,
@@ -40,10 +41,10 @@ fn read_quantified<'a>(alloc: Global, cursor: &mut Cursor<'a>, word: Word) -> Re
     let token = cursor.take(word.terminal)?;
     let name = cursor.take_name()?;
     cursor.take(Terminal::From)?;
-    let low = read_boxed(alloc, cursor, Level::Sum)?;
-    cursor.take(Terminal::To)?;
-    let high = read_boxed(alloc, cursor, Level::Sum)?;
-    cursor.take(Terminal::Colon)?;
+    let least = read_boxed(alloc, cursor, Level::Sum)?;
+    let low = closed(cursor, least, Terminal::To)?;
+    let most = read_boxed(alloc, cursor, Level::Sum)?;
+    let high = closed(cursor, most, Terminal::Colon)?;
     let body = read_boxed(alloc, cursor, Level::Disjunction)?;
     let (kind, place) = (word.kind, token.place);
     Ok(Expr::Quantified(Quantified {
@@ -68,8 +69,7 @@ fn read_boxed<'a>(
     ensures shorter { OnOk result (length cursor.new.point.left < length cursor.old.point.left) }
 {
     let value = read_chain(alloc, cursor, level)?;
-    let held = Box::new(alloc, value)?;
-    Ok(held)
+    boxed(alloc, value)
 }
 
 /// Reads operands of one level, with their operators.
@@ -100,7 +100,7 @@ fn read_links<'a>(
     'links: while let Some(Operator { terminal, op }) = find_operator(cursor.look(), level) {
         cursor.take(terminal)?;
         let right = read_operand(alloc, cursor, level)?;
-        links.push(Link { op, right })?;
+        append(&mut links, Link { op, right })?;
     }
     Ok(links)
 }
@@ -131,7 +131,7 @@ fn read_negation<'a>(alloc: Global, cursor: &mut Cursor<'a>) -> Result<Expr<'a>,
     if cursor.stands_at(Terminal::Not) {
         cursor.take(Terminal::Not)?;
         let operand = read_comparison(alloc, cursor)?;
-        let held = Box::new(alloc, operand)?;
+        let held = boxed(alloc, operand)?;
         Ok(Expr::Not(held))
     } else {
         read_comparison(alloc, cursor)
@@ -179,7 +179,7 @@ fn read_right<'a>(
     let right = read_chain(alloc, cursor, Level::Sum)?;
     let mut links = Vec::new(alloc);
     let op = operator.op;
-    links.push(Link { op, right })?;
+    append(&mut links, Link { op, right })?;
     Ok(links)
 }
 
@@ -192,7 +192,7 @@ fn chain<'a>(alloc: Global, first: Expr<'a>, links: Vec<Link<'a>>) -> Result<Exp
     if links.is_empty() {
         return Ok(first);
     }
-    let first = Box::new(alloc, first)?;
+    let first = boxed(alloc, first)?;
     Ok(Expr::Chain(first, links))
 }
 
@@ -208,7 +208,7 @@ fn read_factor<'a>(alloc: Global, cursor: &mut Cursor<'a>) -> Result<Expr<'a>, S
     if cursor.stands_at(Terminal::Minus) {
         cursor.take(Terminal::Minus)?;
         let operand = read_atom(alloc, cursor)?;
-        let held = Box::new(alloc, operand)?;
+        let held = boxed(alloc, operand)?;
         Ok(Expr::Neg(held))
     } else {
         read_atom(alloc, cursor)
@@ -271,8 +271,7 @@ fn read_brackets<'a>(alloc: Global, cursor: &mut Cursor<'a>) -> Result<Expr<'a>,
 {
     cursor.take(Terminal::OpenParen)?;
     let value = read_expression(alloc, cursor)?;
-    cursor.take(Terminal::CloseParen)?;
-    Ok(value)
+    closed(cursor, value, Terminal::CloseParen)
 }
 
 /// Reads a variable, or an element of an array.
@@ -297,9 +296,9 @@ fn read_subscript<'a>(alloc: Global, cursor: &mut Cursor<'a>) -> Result<Option<B
 {
     if cursor.stands_at(Terminal::OpenBracket) {
         cursor.take(Terminal::OpenBracket)?;
-        let index = read_expression(alloc, cursor)?;
-        cursor.take(Terminal::CloseBracket)?;
-        let held = Box::new(alloc, index)?;
+        let value = read_expression(alloc, cursor)?;
+        let index = closed(cursor, value, Terminal::CloseBracket)?;
+        let held = boxed(alloc, index)?;
         Ok(Some(held))
     } else {
         Ok(None)

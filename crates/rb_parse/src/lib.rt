@@ -11,6 +11,7 @@ pub mod parser;
 mod program;
 mod simple_statements;
 mod statements;
+mod steps;
 
 pub use parser::parse;
 pub use rb_grammar::{Level, Terminal};

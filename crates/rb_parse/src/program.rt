@@ -8,6 +8,7 @@ ghost use Rattle.rb_syntax.specs.Plain.{procedure_declaration, process_declarati
 use crate::connections::read_connections;
 use crate::declarations::{read_declarations, read_parameters};
 use crate::statements::{read_block, read_statements};
+use crate::steps::{append, closed};
 use rb_base::Edition;
 use rb_grammar::{Cursor, Stop, Terminal};
 use rb_syntax::{Procedure, Process, Program};
@@ -22,13 +23,10 @@ pub(crate) fn read_program<'a>(alloc: Global, cursor: &mut Cursor<'a>) -> Result
 {
     if cursor.stands_at(Terminal::Edition) {
         cursor.take(Terminal::Edition)?;
-        cursor.take(Terminal::Two)?;
-        cursor.take(Terminal::Semicolon)?;
-        let second = read_unmarked(alloc, cursor, Edition::Second)?;
-        Ok(second)
+        cursor.take_two(Terminal::Two, Terminal::Semicolon)?;
+        read_unmarked(alloc, cursor, Edition::Second)
     } else {
-        let first = read_unmarked(alloc, cursor, Edition::First)?;
-        Ok(first)
+        read_unmarked(alloc, cursor, Edition::First)
     }
 }
 
@@ -70,13 +68,13 @@ fn read_processes<'a>(
     ensures shorter { OnOk result (length cursor.new.point.left < length cursor.old.point.left) }
 {
     let mut processes = Vec::new(alloc);
-    let first = read_process(alloc, cursor, edition)?;
-    processes.push(first)?;
-    'processes: while cursor.stands_at(Terminal::Process) {
+    'processes: loop {
         let process = read_process(alloc, cursor, edition)?;
-        processes.push(process)?;
+        append(&mut processes, process)?;
+        if !cursor.stands_at(Terminal::Process) {
+            return Ok(processes);
+        }
     }
-    Ok(processes)
 }
 
 fn read_process<'a>(
@@ -94,13 +92,13 @@ fn read_process<'a>(
     let vars = read_declarations(alloc, cursor)?;
     let procedures = read_procedures(alloc, cursor, edition)?;
     let body = read_statements(alloc, cursor, edition)?;
-    cursor.take(Terminal::CloseBrace)?;
-    Ok(Process {
+    let process = Process {
         name,
         vars,
         procedures,
         body,
-    })
+    };
+    closed(cursor, process, Terminal::CloseBrace)
 }
 
 fn read_procedures<'a>(
@@ -117,7 +115,7 @@ fn read_procedures<'a>(
     let mut procedures = Vec::new(alloc);
     'procedures: while cursor.stands_at(Terminal::Procedure) {
         let procedure = read_procedure(alloc, cursor, edition)?;
-        procedures.push(procedure)?;
+        append(&mut procedures, procedure)?;
     }
     Ok(procedures)
 }

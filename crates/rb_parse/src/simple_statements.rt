@@ -9,6 +9,7 @@ ghost use Rattle.rb_grammar.specs.Reading.{IsNotRead};
 ghost use Rattle.rb_syntax.specs.Plain.{command, expression, print_item};
 
 use crate::expressions::{read_expression, read_place};
+use crate::steps::{append, closed};
 use rb_base::Edition;
 use rb_grammar::{Cursor, Stop, Terminal};
 use rb_syntax::{Expr, Item, ItemKind, Statement};
@@ -56,11 +57,10 @@ fn read_assignment<'a>(alloc: Global, cursor: &mut Cursor<'a>) -> Result<Stateme
     ensures ending { cursor.new.ending ≡ cursor.old.ending }
     ensures shorter { OnOk result (length cursor.new.point.left < length cursor.old.point.left) }
 {
-    let place = read_place(alloc, cursor)?;
-    cursor.take(Terminal::Becomes)?;
+    let named = read_place(alloc, cursor)?;
+    let place = closed(cursor, named, Terminal::Becomes)?;
     let value = read_expression(alloc, cursor)?;
-    cursor.take(Terminal::Semicolon)?;
-    Ok(Statement::Assign(place, value))
+    closed(cursor, Statement::Assign(place, value), Terminal::Semicolon)
 }
 
 fn read_print<'a>(alloc: Global, cursor: &mut Cursor<'a>) -> Result<Statement<'a>, Stop>
@@ -73,8 +73,7 @@ fn read_print<'a>(alloc: Global, cursor: &mut Cursor<'a>) -> Result<Statement<'a
 {
     cursor.take(Terminal::Print)?;
     let items = read_items(alloc, cursor)?;
-    cursor.take(Terminal::Semicolon)?;
-    Ok(Statement::Print(items))
+    closed(cursor, Statement::Print(items), Terminal::Semicolon)
 }
 
 fn read_items<'a>(alloc: Global, cursor: &mut Cursor<'a>) -> Result<Vec<Item<'a>>, Stop>
@@ -84,14 +83,14 @@ fn read_items<'a>(alloc: Global, cursor: &mut Cursor<'a>) -> Result<Vec<Item<'a>
     ensures shorter { OnOk result (length cursor.new.point.left < length cursor.old.point.left) }
 {
     let mut items = Vec::new(alloc);
-    let first = read_item(alloc, cursor)?;
-    items.push(first)?;
-    'items: while cursor.stands_at(Terminal::Comma) {
-        cursor.take(Terminal::Comma)?;
+    'items: loop {
         let item = read_item(alloc, cursor)?;
-        items.push(item)?;
+        append(&mut items, item)?;
+        if !cursor.stands_at(Terminal::Comma) {
+            return Ok(items);
+        }
+        cursor.take(Terminal::Comma)?;
     }
-    Ok(items)
 }
 
 fn read_item<'a>(alloc: Global, cursor: &mut Cursor<'a>) -> Result<Item<'a>, Stop>
@@ -133,8 +132,7 @@ fn read_send<'a>(alloc: Global, cursor: &mut Cursor<'a>) -> Result<Statement<'a>
 {
     let channel = cursor.take_named(Terminal::Send)?;
     let value = read_expression(alloc, cursor)?;
-    cursor.take(Terminal::Semicolon)?;
-    Ok(Statement::Send(channel, value))
+    closed(cursor, Statement::Send(channel, value), Terminal::Semicolon)
 }
 
 fn read_call<'a>(alloc: Global, cursor: &mut Cursor<'a>) -> Result<Statement<'a>, Stop>
@@ -198,14 +196,14 @@ fn read_expressions<'a>(alloc: Global, cursor: &mut Cursor<'a>) -> Result<Vec<Ex
     ensures shorter { OnOk result (length cursor.new.point.left < length cursor.old.point.left) }
 {
     let mut values = Vec::new(alloc);
-    let first = read_expression(alloc, cursor)?;
-    values.push(first)?;
-    'values: while cursor.stands_at(Terminal::Comma) {
-        cursor.take(Terminal::Comma)?;
+    'values: loop {
         let value = read_expression(alloc, cursor)?;
-        values.push(value)?;
+        append(&mut values, value)?;
+        if !cursor.stands_at(Terminal::Comma) {
+            return Ok(values);
+        }
+        cursor.take(Terminal::Comma)?;
     }
-    Ok(values)
 }
 
 fn read_fail<'a>(cursor: &mut Cursor<'a>) -> Result<Statement<'a>, Stop>

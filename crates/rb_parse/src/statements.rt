@@ -11,6 +11,7 @@ ghost use Rattle.rb_syntax.specs.Plain.{alternates_of, body, command, commands_o
 use crate::declarations::read_declarations;
 use crate::expressions::{read_expression, read_place};
 use crate::simple_statements::read_simple;
+use crate::steps::{append, closed};
 use rb_base::Edition;
 use rb_grammar::{Cursor, Stop, Terminal, may_not_wait, read_no_alternate, read_number};
 use rb_syntax::{Block, Name, Recovery, Statement};
@@ -31,7 +32,7 @@ pub(crate) fn read_statements<'a>(
     let mut statements = Vec::new(alloc);
     'statements: while begins_statement(cursor.look()) {
         let statement = read_statement(alloc, cursor, edition)?;
-        statements.push(statement)?;
+        append(&mut statements, statement)?;
     }
     Ok(statements)
 }
@@ -96,8 +97,7 @@ pub(crate) fn read_block<'a>(
     cursor.take(Terminal::OpenBrace)?;
     let vars = read_declarations(alloc, cursor)?;
     let body = read_statements(alloc, cursor, edition)?;
-    cursor.take(Terminal::CloseBrace)?;
-    Ok(Block { vars, body })
+    closed(cursor, Block { vars, body }, Terminal::CloseBrace)
 }
 
 #[cycle(statement)]
@@ -264,8 +264,8 @@ fn read_recovery<'a>(
 {
     let number = cursor.recoveries();
     let token = cursor.take(Terminal::Ensure)?;
-    let test = read_expression(alloc, cursor)?;
-    cursor.take(Terminal::Within)?;
+    let tested = read_expression(alloc, cursor)?;
+    let test = closed(cursor, tested, Terminal::Within)?;
     let bound = read_number(cursor)?;
     let alternates = read_alternates(alloc, cursor, edition)?;
     Ok(Recovery {
@@ -290,14 +290,14 @@ fn read_alternates<'a>(
     ensures shorter { OnOk result (length cursor.new.point.left < length cursor.old.point.left) }
 {
     let mut alternates = Vec::new(alloc);
-    let first = read_alternate(alloc, cursor, edition)?;
-    alternates.push(first)?;
-    'alternates: while cursor.stands_at(Terminal::By) {
+    'alternates: loop {
         let alternate = read_alternate(alloc, cursor, edition)?;
-        alternates.push(alternate)?;
+        append(&mut alternates, alternate)?;
+        if !cursor.stands_at(Terminal::By) {
+            read_no_alternate(cursor)?;
+            return Ok(alternates);
+        }
     }
-    read_no_alternate(cursor)?;
-    Ok(alternates)
 }
 
 /// Reads one alternate, with the `else` behind it.
@@ -314,6 +314,5 @@ fn read_alternate<'a>(
 {
     cursor.take(Terminal::By)?;
     let block = read_block(alloc, cursor, edition)?;
-    cursor.take(Terminal::Else)?;
-    Ok(block)
+    closed(cursor, block, Terminal::Else)
 }

@@ -4,6 +4,8 @@ use Rattle.rb_grammar.proofs.Pairs.{by_named, exit_two, opens}
 use Rattle.rb_grammar.proofs.Reaching.{by_part, by_terminal, complete, exit_missed, exit_within, same_value}
 use Rattle.rb_grammar.proofs.Accepting.Starts.{no_channel}
 use Rattle.rb_grammar.specs.Parts.{Part}
+use Rattle.rb_syntax.specs.Plain.{channel_declaration}
+use Rattle.rb_parse.proofs.Closing.{last_closed, last_missed}
 use Rattle.rb_parse.proofs.connections.read_channel.Goals as goal
 
 pub returns-in_err-name-clause-err : goal.returns-in_err-name-clause-err
@@ -39,20 +41,20 @@ returns-in_err-size-clause-err c =
     c.in_ok-name.ensures.ok) c.in_ok-sender.ensures.ok) c.in_ok-receiver.ensures.ok) c.in_ok-take.ensures.ok)
     c.in_err-size.ensures.err
 
-pub returns-in_err-take-2-clause-err : goal.returns-in_err-take-2-clause-err
-returns-in_err-take-2-clause-err c =
-    exit_missed c.from_residual-in_err-take-2.result c.from_residual-in_err-take-2.ensures.1
+pub returns-clause-err : goal.returns-clause-err
+returns-clause-err c =
+    last_missed _ _ c.closed.result
     (c.in_ok-size.ensures.ending ∙ c.in_ok-take.ensures.ending ∙ c.in_ok-receiver.ensures.ending ∙ c.in_ok-sender.ensures.ending ∙
     c.in_ok-name.ensures.ending) (by_part (by_terminal (by_named
     (by_named (by_named (opens Part.Channel c.args.cursor.now.point _ refl (no_channel _) refl) c.in_ok-name.ensures.ok)
     c.in_ok-sender.ensures.ok) c.in_ok-receiver.ensures.ok) c.in_ok-take.ensures.ok) c.in_ok-size.ensures.ok)
-    c.in_err-take-2.ensures.err
+    c.closed.ensures.err
 
 pub returns-clause-ok : goal.returns-clause-ok
 returns-clause-ok c =
-    same_value (λ j. channel_of c.in_ok-size.size (sym (c.in_ok-name.ensures.ok).named.is j)
+    last_closed _ c.closed.result channel_declaration _ (λ token taken. same_value (λ j. channel_of c.in_ok-size.size (sym (c.in_ok-name.ensures.ok).named.is j)
     (sym (c.in_ok-sender.ensures.ok).named.is j) (sym (c.in_ok-receiver.ensures.ok).named.is j))
     (complete (by_terminal (by_part (by_terminal (by_named (by_named
     (by_named (opens Part.Channel c.args.cursor.now.point _ refl (no_channel _) refl) c.in_ok-name.ensures.ok)
     c.in_ok-sender.ensures.ok) c.in_ok-receiver.ensures.ok) c.in_ok-take.ensures.ok) c.in_ok-size.ensures.ok)
-    c.in_ok-take-2.ensures.ok))
+    taken))) c.closed.ensures.same c.closed.ensures.taken

@@ -5,7 +5,6 @@ use Rattle.rb_grammar.proofs.Reaching.{begins_here, by_part, exit_memory, exit_w
 use Rattle.rb_grammar.proofs.Accepting.Starts.{no_connections, some_channel, some_conversation}
 use Rattle.rb_grammar.specs.Parts.{Part}
 use Rattle.rb_grammar.specs.Table.{channels_after, conversations_after}
-use Rattle.rb_grammar.specs.declared.stop.Stop.TheVariants as stops
 use Rattle.rb_parse.proofs.connections.read_connections.Goals as goal
 
 pub connections-init : goal.connections-init
@@ -24,9 +23,9 @@ returns-in_err-channel-clause-err c =
     (connections_channel _ (some_channel _ (sym c.if-stands_at.ensures))) (some_channel _ (sym c.if-stands_at.ensures))))
     c.in_err-channel.ensures.err
 
-pub returns-in_err-push-clause-err : goal.returns-in_err-push-clause-err
-returns-in_err-push-clause-err c =
-    exit_memory _ _ _ c.from_residual-in_err-push.result stops.Memory c.from_residual-in_err-push.ensures.1 refl
+pub returns-in_err-append-clause-err : goal.returns-in_err-append-clause-err
+returns-in_err-append-clause-err c =
+    exit_memory _ _ _ c.from_residual-in_err-append.result _ c.from_residual-in_err-append.ensures.1 c.in_err-append.ensures.memory
 
 pub returns-in_err-conversation-clause-err : goal.returns-in_err-conversation-clause-err
 returns-in_err-conversation-clause-err c =
@@ -36,9 +35,9 @@ returns-in_err-conversation-clause-err c =
     (some_conversation _ (sym c.if-stands_at-2.ensures))) (some_conversation _ (sym c.if-stands_at-2.ensures))))
     c.in_err-conversation.ensures.err
 
-pub returns-in_err-push-2-clause-err : goal.returns-in_err-push-2-clause-err
-returns-in_err-push-2-clause-err c =
-    exit_memory _ _ _ c.from_residual-in_err-push-2.result stops.Memory c.from_residual-in_err-push-2.ensures.1 refl
+pub returns-in_err-append-2-clause-err : goal.returns-in_err-append-2-clause-err
+returns-in_err-append-2-clause-err c =
+    exit_memory _ _ _ c.from_residual-in_err-append-2.result _ c.from_residual-in_err-append-2.ensures.1 c.in_err-append-2.ensures.memory
 
 pub returns-else-stands_at-2-clause-ok : goal.returns-else-stands_at-2-clause-ok
 returns-else-stands_at-2-clause-ok c =
@@ -49,7 +48,7 @@ pub connections-preserved : goal.connections-preserved
 connections-preserved c =
     record {
       reached = conversation_step c.connections.channels.items c.connections.conversations.items
-          c.push-then-stands_at-2.new.self.items c.in_ok-conversation.conversation c.in_ok-push-2.ensures.items
+          c.append-then-stands_at-2.new.list.items c.in_ok-conversation.conversation c.in_ok-append-2.ensures.items
           c.connections.invariant.reached (by_part (begins_here Part.Conversation _ conversations_after
           (connections_conversation _ (some_conversation _ (sym c.if-stands_at-2.ensures)))
           (some_conversation _ (sym c.if-stands_at-2.ensures))) c.in_ok-conversation.ensures.ok);
@@ -60,8 +59,8 @@ connections-preserved c =
 pub connections-preserved-in-Continue-branch-2 : goal.connections-preserved-in-Continue-branch-2
 connections-preserved-in-Continue-branch-2 c =
     record {
-      reached = channel_step c.connections.channels.items c.push.new.self.items c.connections.conversations.items
-          c.in_ok-channel.channel c.in_ok-push.ensures.items c.connections.invariant.reached
+      reached = channel_step c.connections.channels.items c.append.new.list.items c.connections.conversations.items
+          c.in_ok-channel.channel c.in_ok-append.ensures.items c.connections.invariant.reached
           (by_part (begins_here Part.Channel _ channels_after
           (connections_channel _ (some_channel _ (sym c.if-stands_at.ensures))) (some_channel _ (sym c.if-stands_at.ensures)))
           c.in_ok-channel.ensures.ok);

@@ -1,9 +1,11 @@
 use Rattle.std.proofs.Common.{refl, sym, ap, ◌∙◌}
 use Rattle.rb_grammar.proofs.Made.{variable_with}
 use Rattle.rb_grammar.proofs.Pairs.{by_named, exit_two, opens}
-use Rattle.rb_grammar.proofs.Reaching.{by_part, by_terminal, complete, exit_missed, exit_within, same_value}
+use Rattle.rb_grammar.proofs.Reaching.{by_part, by_terminal, complete, exit_within, same_value}
 use Rattle.rb_grammar.proofs.Accepting.Starts.{no_declaration}
 use Rattle.rb_grammar.specs.Parts.{Part}
+use Rattle.rb_syntax.specs.Plain.{declaration}
+use Rattle.rb_parse.proofs.Closing.{last_closed, last_missed}
 use Rattle.rb_parse.proofs.declarations.read_declaration.Goals as goal
 
 pub returns-in_err-name-clause-err : goal.returns-in_err-name-clause-err
@@ -17,15 +19,16 @@ returns-in_err-size-clause-err c =
     (by_named (opens Part.Declaration c.args.cursor.now.point _ refl (no_declaration _) refl) c.in_ok-name.ensures.ok)
     c.in_err-size.ensures.err
 
-pub returns-in_err-take-clause-err : goal.returns-in_err-take-clause-err
-returns-in_err-take-clause-err c =
-    exit_missed c.from_residual-in_err-take.result c.from_residual-in_err-take.ensures.1
+pub returns-clause-err : goal.returns-clause-err
+returns-clause-err c =
+    last_missed _ _ c.closed.result
     (c.in_ok-size.ensures.ending ∙ c.in_ok-name.ensures.ending)
     (by_part (by_named (opens Part.Declaration c.args.cursor.now.point _ refl (no_declaration _) refl) c.in_ok-name.ensures.ok)
-    c.in_ok-size.ensures.ok) c.in_err-take.ensures.err
+    c.in_ok-size.ensures.ok) c.closed.ensures.err
 
 pub returns-clause-ok : goal.returns-clause-ok
 returns-clause-ok c =
-    same_value (ap (variable_with c.in_ok-size.size) (sym (c.in_ok-name.ensures.ok).named.is))
+    last_closed _ c.closed.result declaration _ (λ token taken. same_value
+    (ap (variable_with c.in_ok-size.size) (sym (c.in_ok-name.ensures.ok).named.is))
     (complete (by_terminal (by_part (by_named (opens Part.Declaration c.args.cursor.now.point _ refl (no_declaration _) refl)
-    c.in_ok-name.ensures.ok) c.in_ok-size.ensures.ok) c.in_ok-take.ensures.ok))
+    c.in_ok-name.ensures.ok) c.in_ok-size.ensures.ok) taken))) c.closed.ensures.same c.closed.ensures.taken

@@ -1,5 +1,4 @@
 use Rattle.std.proofs.Common.{refl, sym, ◌∙◌, arith}
-use Rattle.rb_grammar.specs.declared.stop.Stop.TheVariants as stops
 use Rattle.rb_grammar.specs.Parts.{Part}
 use Rattle.rb_grammar.specs.StatementTable.{declarations_after}
 use Rattle.rb_grammar.proofs.Accepting.Starts.{some_declaration, no_declarations}
@@ -20,13 +19,13 @@ returns-in_err-var-clause-err c =
     (within c.vars.invariant.reached (begins_here Part.Declaration _ declarations_after refl
     (some_declaration _ (sym c.vars-test.ensures)))) c.in_err-var.ensures.err
 
-pub returns-in_err-push-clause-err : goal.returns-in_err-push-clause-err
-returns-in_err-push-clause-err c =
-    exit_memory _ _ _ c.from_residual-in_err-push.result stops.Memory c.from_residual-in_err-push.ensures.1 refl
+pub returns-in_err-append-clause-err : goal.returns-in_err-append-clause-err
+returns-in_err-append-clause-err c =
+    exit_memory _ _ _ c.from_residual-in_err-append.result _ c.from_residual-in_err-append.ensures.1 c.in_err-append.ensures.memory
 
 pub vars-preserved : goal.vars-preserved
 vars-preserved c = record {
-  reached = vars_step c.vars.vars.items c.push.new.self.items c.in_ok-var.var c.in_ok-push.ensures.items c.vars.invariant.reached
+  reached = vars_step c.vars.vars.items c.append.new.list.items c.in_ok-var.var c.in_ok-append.ensures.items c.vars.invariant.reached
       (by_part (begins_here Part.Declaration _ declarations_after refl (some_declaration _ (sym c.vars-test.ensures)))
       c.in_ok-var.ensures.ok);
   ending = c.in_ok-var.ensures.ending ∙ c.vars.invariant.ending;

@@ -15,8 +15,8 @@ use Rattle.rb_grammar.specs.Reading.{Exhausts, Stopped}
 use Rattle.rb_syntax.proofs.Bridge.{expression_neg, expression_not, expression_prior, expression_quantified, expression_value}
 use Rattle.rb_syntax.specs.Plain.{expression, links_of, subscript}
 use Rattle.rb_syntax.specs.Tree.{Element, Minus, Negation, NoLink, Quantification, Refer, Scalar}
-use Rattle.rb_grammar.specs.declared.stop.Stop.TheVariants as stops
 use Rattle.rb_grammar.specs.declared.level.Level.TheVariants as levels
+use Rattle.rb_parse.proofs.Closing.{last_closed, last_held, last_missed}
 use Rattle.rb_parse.proofs.Handed.{last_made, last_read, last_stopped, last_unmade}
 use Rattle.rb_parse.proofs.expressions.+expression.Goals as goal
 
@@ -51,77 +51,77 @@ read_quantified-returns-in_err-take-clause-err t c =
     (quantified_begun c.args.word.terminal c.args.word.kind (word_found c.requires)) c.in_ok-token.ensures.ok)
     (name_taken c.in_ok-name.ensures.ok)) c.in_err-take.ensures.err
 
-pub read_quantified-returns-in_err-low-clause-err : goal.read_quantified-returns-in_err-low-clause-err
-read_quantified-returns-in_err-low-clause-err t c =
-    exit_within c.from_residual-in_err-low.result c.from_residual-in_err-low.ensures.1
+pub read_quantified-returns-in_err-least-clause-err : goal.read_quantified-returns-in_err-least-clause-err
+read_quantified-returns-in_err-least-clause-err t c =
+    exit_within c.from_residual-in_err-least.result c.from_residual-in_err-least.ensures.1
     (c.in_ok-take.ensures.ending ∙ c.in_ok-name.ensures.ending ∙ c.in_ok-token.ensures.ending)
     (by_terminal (by_terminal (starts (quantified_after c.args.word.kind)
     (quantified_begun c.args.word.terminal c.args.word.kind (word_found c.requires)) c.in_ok-token.ensures.ok)
-    (name_taken c.in_ok-name.ensures.ok)) c.in_ok-take.ensures.ok) c.in_err-low.ensures.err
+    (name_taken c.in_ok-name.ensures.ok)) c.in_ok-take.ensures.ok) c.in_err-least.ensures.err
 
-pub read_quantified-returns-in_err-take-2-clause-err : goal.read_quantified-returns-in_err-take-2-clause-err
-read_quantified-returns-in_err-take-2-clause-err t c =
-    exit_missed c.from_residual-in_err-take-2.result c.from_residual-in_err-take-2.ensures.1
-    (c.in_ok-low.ensures.ending ∙ c.in_ok-take.ensures.ending ∙ c.in_ok-name.ensures.ending ∙ c.in_ok-token.ensures.ending)
+pub read_quantified-returns-in_err-low-clause-err : goal.read_quantified-returns-in_err-low-clause-err
+read_quantified-returns-in_err-low-clause-err t c =
+    exit_missed c.from_residual-in_err-low.result c.from_residual-in_err-low.ensures.1
+    (c.in_ok-least.ensures.ending ∙ c.in_ok-take.ensures.ending ∙ c.in_ok-name.ensures.ending ∙ c.in_ok-token.ensures.ending)
     (by_part (by_terminal (by_terminal (starts (quantified_after c.args.word.kind)
     (quantified_begun c.args.word.terminal c.args.word.kind (word_found c.requires)) c.in_ok-token.ensures.ok)
-    (name_taken c.in_ok-name.ensures.ok)) c.in_ok-take.ensures.ok) c.in_ok-low.ensures.ok) c.in_err-take-2.ensures.err
+    (name_taken c.in_ok-name.ensures.ok)) c.in_ok-take.ensures.ok) c.in_ok-least.ensures.ok) c.in_err-low.ensures.err
 
-pub read_quantified-returns-in_err-high-clause-err : goal.read_quantified-returns-in_err-high-clause-err
-read_quantified-returns-in_err-high-clause-err t c =
-    exit_within c.from_residual-in_err-high.result c.from_residual-in_err-high.ensures.1
-    (c.in_ok-take-2.ensures.ending ∙ c.in_ok-low.ensures.ending ∙ c.in_ok-take.ensures.ending ∙ c.in_ok-name.ensures.ending ∙
+pub read_quantified-returns-in_err-most-clause-err : goal.read_quantified-returns-in_err-most-clause-err
+read_quantified-returns-in_err-most-clause-err t c =
+    exit_within c.from_residual-in_err-most.result c.from_residual-in_err-most.ensures.1
+    (c.in_ok-low.ensures.ending ∙ c.in_ok-least.ensures.ending ∙ c.in_ok-take.ensures.ending ∙ c.in_ok-name.ensures.ending ∙
     c.in_ok-token.ensures.ending) (by_terminal (by_part (by_terminal
     (by_terminal (starts (quantified_after c.args.word.kind)
     (quantified_begun c.args.word.terminal c.args.word.kind (word_found c.requires)) c.in_ok-token.ensures.ok)
-    (name_taken c.in_ok-name.ensures.ok)) c.in_ok-take.ensures.ok) c.in_ok-low.ensures.ok) c.in_ok-take-2.ensures.ok)
-    c.in_err-high.ensures.err
+    (name_taken c.in_ok-name.ensures.ok)) c.in_ok-take.ensures.ok) c.in_ok-least.ensures.ok) c.in_ok-low.ensures.taken.1)
+    c.in_err-most.ensures.err
 
-pub read_quantified-returns-in_err-take-3-clause-err : goal.read_quantified-returns-in_err-take-3-clause-err
-read_quantified-returns-in_err-take-3-clause-err t c =
-    exit_missed c.from_residual-in_err-take-3.result c.from_residual-in_err-take-3.ensures.1
-    (c.in_ok-high.ensures.ending ∙ c.in_ok-take-2.ensures.ending ∙ c.in_ok-low.ensures.ending ∙ c.in_ok-take.ensures.ending ∙
+pub read_quantified-returns-in_err-high-clause-err : goal.read_quantified-returns-in_err-high-clause-err
+read_quantified-returns-in_err-high-clause-err t c =
+    exit_missed c.from_residual-in_err-high.result c.from_residual-in_err-high.ensures.1
+    (c.in_ok-most.ensures.ending ∙ c.in_ok-low.ensures.ending ∙ c.in_ok-least.ensures.ending ∙ c.in_ok-take.ensures.ending ∙
     c.in_ok-name.ensures.ending ∙ c.in_ok-token.ensures.ending)
     (by_part (by_terminal (by_part (by_terminal (by_terminal
     (starts (quantified_after c.args.word.kind) (quantified_begun c.args.word.terminal c.args.word.kind (word_found c.requires))
-    c.in_ok-token.ensures.ok) (name_taken c.in_ok-name.ensures.ok)) c.in_ok-take.ensures.ok) c.in_ok-low.ensures.ok)
-    c.in_ok-take-2.ensures.ok) c.in_ok-high.ensures.ok) c.in_err-take-3.ensures.err
+    c.in_ok-token.ensures.ok) (name_taken c.in_ok-name.ensures.ok)) c.in_ok-take.ensures.ok) c.in_ok-least.ensures.ok)
+    c.in_ok-low.ensures.taken.1) c.in_ok-most.ensures.ok) c.in_err-high.ensures.err
 
 pub read_quantified-returns-in_err-body-clause-err : goal.read_quantified-returns-in_err-body-clause-err
 read_quantified-returns-in_err-body-clause-err t c =
     exit_within c.from_residual-in_err-body.result c.from_residual-in_err-body.ensures.1
-    (c.in_ok-take-3.ensures.ending ∙ c.in_ok-high.ensures.ending ∙ c.in_ok-take-2.ensures.ending ∙ c.in_ok-low.ensures.ending ∙
+    (c.in_ok-high.ensures.ending ∙ c.in_ok-most.ensures.ending ∙ c.in_ok-low.ensures.ending ∙ c.in_ok-least.ensures.ending ∙
     c.in_ok-take.ensures.ending ∙ c.in_ok-name.ensures.ending ∙ c.in_ok-token.ensures.ending)
     (by_terminal (by_part (by_terminal (by_part (by_terminal
     (by_terminal (starts (quantified_after c.args.word.kind)
     (quantified_begun c.args.word.terminal c.args.word.kind (word_found c.requires)) c.in_ok-token.ensures.ok)
-    (name_taken c.in_ok-name.ensures.ok)) c.in_ok-take.ensures.ok) c.in_ok-low.ensures.ok) c.in_ok-take-2.ensures.ok)
-    c.in_ok-high.ensures.ok) c.in_ok-take-3.ensures.ok) c.in_err-body.ensures.err
+    (name_taken c.in_ok-name.ensures.ok)) c.in_ok-take.ensures.ok) c.in_ok-least.ensures.ok) c.in_ok-low.ensures.taken.1)
+    c.in_ok-most.ensures.ok) c.in_ok-high.ensures.taken.1) c.in_err-body.ensures.err
 
 pub read_quantified-returns-clause-ok : goal.read_quantified-returns-clause-ok
 read_quantified-returns-clause-ok t c =
-    same_value (ap (λ name. Quantification c.args.word.kind c.in_ok-token.token.place name (expression c.in_ok-low.low.value)
-    (expression c.in_ok-high.high.value) (expression c.in_ok-body.body.value)) (sym (c.in_ok-name.ensures.ok).is) ∙ sym
-    (expression_quantified c.args.word.kind c.in_ok-token.token.place c.in_ok-name.name c.in_ok-low.low c.in_ok-high.high
-    c.in_ok-body.body)) (complete (by_part (by_terminal (by_part
+    same_value (sym (expression_quantified c.args.word.kind c.in_ok-token.token.place c.in_ok-name.name c.in_ok-low.low
+    c.in_ok-high.high c.in_ok-body.body)) (same_value (λ j. Quantification c.args.word.kind c.in_ok-token.token.place
+    (sym (c.in_ok-name.ensures.ok).is j) (expression (sym c.in_ok-low.ensures.same j).value)
+    (expression (sym c.in_ok-high.ensures.same j).value) (expression c.in_ok-body.body.value)) (complete (by_part (by_terminal (by_part
     (by_terminal (by_part (by_terminal (by_terminal (starts (quantified_after c.args.word.kind)
     (quantified_begun c.args.word.terminal c.args.word.kind (word_found c.requires)) c.in_ok-token.ensures.ok)
-    (name_taken c.in_ok-name.ensures.ok)) c.in_ok-take.ensures.ok) c.in_ok-low.ensures.ok) c.in_ok-take-2.ensures.ok)
-    c.in_ok-high.ensures.ok) c.in_ok-take-3.ensures.ok) c.in_ok-body.ensures.ok))
+    (name_taken c.in_ok-name.ensures.ok)) c.in_ok-take.ensures.ok) c.in_ok-least.ensures.ok) c.in_ok-low.ensures.taken.1)
+    c.in_ok-most.ensures.ok) c.in_ok-high.ensures.taken.1) c.in_ok-body.ensures.ok)))
 
 pub read_boxed-returns-in_err-value-clause-err : goal.read_boxed-returns-in_err-value-clause-err
 read_boxed-returns-in_err-value-clause-err t c =
     exit_within c.from_residual.result c.from_residual.ensures.1 refl (unread (Part.Chain c.args.level) c.args.cursor.now.point)
     c.in_err-value.ensures.err
 
-pub read_boxed-returns-in_err-held-clause-err : goal.read_boxed-returns-in_err-held-clause-err
-read_boxed-returns-in_err-held-clause-err t c =
-    exit_memory _ _ _ c.from_residual-in_err-held.result stops.Memory c.from_residual-in_err-held.ensures.1 refl
+pub read_boxed-returns-clause-err : goal.read_boxed-returns-clause-err
+read_boxed-returns-clause-err t c =
+    last_unmade _ _ _ c.boxed.result c.boxed.ensures.memory
 
 pub read_boxed-returns-clause-ok : goal.read_boxed-returns-clause-ok
 read_boxed-returns-clause-ok t c =
-    same_value (ap expression (sym c.in_ok-held.ensures.ok))
-    (complete (by_part (unread (Part.Chain c.args.level) c.args.cursor.now.point) c.in_ok-value.ensures.ok))
+    last_held c.boxed.result (λ held. held.value) expression
+    (complete (by_part (unread (Part.Chain c.args.level) c.args.cursor.now.point) c.in_ok-value.ensures.ok)) c.boxed.ensures.ok
 
 pub read_chain-returns-in_err-first-clause-err : goal.read_chain-returns-in_err-first-clause-err
 read_chain-returns-in_err-first-clause-err t c =
@@ -170,16 +170,16 @@ read_links-returns-in_err-right-clause-err t c =
 pub read_links-links-preserved : goal.read_links-links-preserved
 read_links-links-preserved t c =
     record {
-      reached = links_step c.args.level c.links.links.items c.push.new.self.items
-          (record { op = c.in-Some.field-0.op; right = c.in_ok-right.right }) c.in_ok-push.ensures.items c.links.invariant.reached
+      reached = links_step c.args.level c.links.links.items c.append.new.list.items
+          (record { op = c.in-Some.field-0.op; right = c.in_ok-right.right }) c.in_ok-append.ensures.items c.links.invariant.reached
           (by_part (link_begun c.args.level c.in-Some.ensures c.in_ok-take.ensures.ok) c.in_ok-right.ensures.ok);
       ending = c.in_ok-right.ensures.ending ∙ c.in_ok-take.ensures.ending ∙ c.links.invariant.ending;
       shorter = omega (arith, c.in_ok-take.ensures.shorter, c.in_ok-right.ensures.shorter, c.links.invariant.shorter);
     }
 
-pub read_links-returns-in_err-push-clause-err : goal.read_links-returns-in_err-push-clause-err
-read_links-returns-in_err-push-clause-err t c =
-    exit_memory _ _ _ c.from_residual-in_err-push.result stops.Memory c.from_residual-in_err-push.ensures.1 refl
+pub read_links-returns-in_err-append-clause-err : goal.read_links-returns-in_err-append-clause-err
+read_links-returns-in_err-append-clause-err t c =
+    exit_memory _ _ _ c.from_residual-in_err-append.result _ c.from_residual-in_err-append.ensures.1 c.in_err-append.ensures.memory
 
 pub read_links-returns-clause-ok : goal.read_links-returns-clause-ok
 read_links-returns-clause-ok t c =
@@ -246,7 +246,7 @@ read_negation-returns-in_err-operand-clause-err t c =
 
 pub read_negation-returns-in_err-held-clause-err : goal.read_negation-returns-in_err-held-clause-err
 read_negation-returns-in_err-held-clause-err t c =
-    exit_memory _ _ _ c.from_residual-in_err-held.result stops.Memory c.from_residual-in_err-held.ensures.1 refl
+    exit_memory _ _ _ c.from_residual-in_err-held.result _ c.from_residual-in_err-held.ensures.1 c.in_err-held.ensures.memory
 
 pub read_negation-returns-in_ok-held-clause-ok : goal.read_negation-returns-in_ok-held-clause-ok
 read_negation-returns-in_ok-held-clause-ok t c =
@@ -299,13 +299,13 @@ read_right-returns-in_err-right-clause-err t c =
     exit_within c.from_residual-in_err-right.result c.from_residual-in_err-right.ensures.1 c.in_ok-take.ensures.ending
     (starts _ (compared_found c.requires) c.in_ok-take.ensures.ok) c.in_err-right.ensures.err
 
-pub read_right-returns-in_err-push-clause-err : goal.read_right-returns-in_err-push-clause-err
-read_right-returns-in_err-push-clause-err t c =
-    exit_memory _ _ _ c.from_residual-in_err-push.result stops.Memory c.from_residual-in_err-push.ensures.1 refl
+pub read_right-returns-in_err-append-clause-err : goal.read_right-returns-in_err-append-clause-err
+read_right-returns-in_err-append-clause-err t c =
+    exit_memory _ _ _ c.from_residual-in_err-append.result _ c.from_residual-in_err-append.ensures.1 c.in_err-append.ensures.memory
 
 pub read_right-returns-clause-ok : goal.read_right-returns-clause-ok
 read_right-returns-clause-ok t c =
-    same_value (ap links_of (sym (c.in_ok-push.ensures.items ∙ ap
+    same_value (ap links_of (sym (c.in_ok-append.ensures.items ∙ ap
     (λ held. held ++ (record { op = c.args.operator.op; right = c.in_ok-right.right } ∷ [])) c.new-links.ensures.items)))
     (complete (by_part (starts _ (compared_found c.requires) c.in_ok-take.ensures.ok) c.in_ok-right.ensures.ok))
 
@@ -320,7 +320,7 @@ read_factor-returns-in_err-operand-clause-err t c =
 
 pub read_factor-returns-in_err-held-clause-err : goal.read_factor-returns-in_err-held-clause-err
 read_factor-returns-in_err-held-clause-err t c =
-    exit_memory _ _ _ c.from_residual-in_err-held.result stops.Memory c.from_residual-in_err-held.ensures.1 refl
+    exit_memory _ _ _ c.from_residual-in_err-held.result _ c.from_residual-in_err-held.ensures.1 c.in_err-held.ensures.memory
 
 pub read_factor-returns-in_ok-held-clause-ok : goal.read_factor-returns-in_ok-held-clause-ok
 read_factor-returns-in_ok-held-clause-ok t c =
@@ -372,15 +372,16 @@ read_brackets-returns-in_err-value-clause-err t c =
     exit_within c.from_residual-in_err-value.result c.from_residual-in_err-value.ensures.1 c.in_ok-take.ensures.ending
     (starts _ refl c.in_ok-take.ensures.ok) c.in_err-value.ensures.err
 
-pub read_brackets-returns-in_err-take-2-clause-err : goal.read_brackets-returns-in_err-take-2-clause-err
-read_brackets-returns-in_err-take-2-clause-err t c =
-    exit_missed c.from_residual-in_err-take-2.result c.from_residual-in_err-take-2.ensures.1
-    (c.in_ok-value.ensures.ending ∙ c.in_ok-take.ensures.ending)
-    (by_part (starts _ refl c.in_ok-take.ensures.ok) c.in_ok-value.ensures.ok) c.in_err-take-2.ensures.err
+pub read_brackets-returns-clause-err : goal.read_brackets-returns-clause-err
+read_brackets-returns-clause-err t c =
+    last_missed _ _ c.closed.result (c.in_ok-value.ensures.ending ∙ c.in_ok-take.ensures.ending)
+    (by_part (starts _ refl c.in_ok-take.ensures.ok) c.in_ok-value.ensures.ok) c.closed.ensures.err
 
 pub read_brackets-returns-clause-ok : goal.read_brackets-returns-clause-ok
 read_brackets-returns-clause-ok t c =
-    complete (by_terminal (by_part (starts _ refl c.in_ok-take.ensures.ok) c.in_ok-value.ensures.ok) c.in_ok-take-2.ensures.ok)
+    last_closed _ c.closed.result expression _
+    (λ token taken. complete (by_terminal (by_part (starts _ refl c.in_ok-take.ensures.ok) c.in_ok-value.ensures.ok) taken))
+    c.closed.ensures.same c.closed.ensures.taken
 
 pub read_place-returns-in_err-name-clause-err : goal.read_place-returns-in_err-name-clause-err
 read_place-returns-in_err-name-clause-err t c =
@@ -400,25 +401,25 @@ pub read_subscript-returns-in_err-take-clause-err : goal.read_subscript-returns-
 read_subscript-returns-in_err-take-clause-err t c =
     exit_sure _ c.from_residual.result c.from_residual.ensures.1 refl (sym c.if-stands_at.ensures) (last_start _ refl) c.in_err-take.ensures.err
 
+pub read_subscript-returns-in_err-value-clause-err : goal.read_subscript-returns-in_err-value-clause-err
+read_subscript-returns-in_err-value-clause-err t c =
+    exit_within c.from_residual-in_err-value.result c.from_residual-in_err-value.ensures.1 c.in_ok-take.ensures.ending
+    (starts _ refl c.in_ok-take.ensures.ok) c.in_err-value.ensures.err
+
 pub read_subscript-returns-in_err-index-clause-err : goal.read_subscript-returns-in_err-index-clause-err
 read_subscript-returns-in_err-index-clause-err t c =
-    exit_within c.from_residual-in_err-index.result c.from_residual-in_err-index.ensures.1 c.in_ok-take.ensures.ending
-    (starts _ refl c.in_ok-take.ensures.ok) c.in_err-index.ensures.err
-
-pub read_subscript-returns-in_err-take-2-clause-err : goal.read_subscript-returns-in_err-take-2-clause-err
-read_subscript-returns-in_err-take-2-clause-err t c =
-    exit_missed c.from_residual-in_err-take-2.result c.from_residual-in_err-take-2.ensures.1
-    (c.in_ok-index.ensures.ending ∙ c.in_ok-take.ensures.ending)
-    (by_part (starts _ refl c.in_ok-take.ensures.ok) c.in_ok-index.ensures.ok) c.in_err-take-2.ensures.err
+    exit_missed c.from_residual-in_err-index.result c.from_residual-in_err-index.ensures.1
+    (c.in_ok-value.ensures.ending ∙ c.in_ok-take.ensures.ending)
+    (by_part (starts _ refl c.in_ok-take.ensures.ok) c.in_ok-value.ensures.ok) c.in_err-index.ensures.err
 
 pub read_subscript-returns-in_err-held-clause-err : goal.read_subscript-returns-in_err-held-clause-err
 read_subscript-returns-in_err-held-clause-err t c =
-    exit_memory _ _ _ c.from_residual-in_err-held.result stops.Memory c.from_residual-in_err-held.ensures.1 refl
+    exit_memory _ _ _ c.from_residual-in_err-held.result _ c.from_residual-in_err-held.ensures.1 c.in_err-held.ensures.memory
 
 pub read_subscript-returns-in_ok-held-clause-ok : goal.read_subscript-returns-in_ok-held-clause-ok
 read_subscript-returns-in_ok-held-clause-ok t c =
-    same_value (ap (λ e. Element (expression e)) (sym c.in_ok-held.ensures.ok))
-    (complete (by_terminal (by_part (starts _ refl c.in_ok-take.ensures.ok) c.in_ok-index.ensures.ok) c.in_ok-take-2.ensures.ok))
+    same_value (ap (λ e. Element (expression e)) (sym (c.in_ok-held.ensures.ok ∙ c.in_ok-index.ensures.same)))
+    (complete (by_terminal (by_part (starts _ refl c.in_ok-take.ensures.ok) c.in_ok-value.ensures.ok) c.in_ok-index.ensures.taken.1))
 
 pub read_subscript-returns-else-stands_at-clause-ok : goal.read_subscript-returns-else-stands_at-clause-ok
 read_subscript-returns-else-stands_at-clause-ok t c =

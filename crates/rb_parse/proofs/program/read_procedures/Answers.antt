@@ -4,7 +4,6 @@ use Rattle.rb_grammar.proofs.Reaching.{begins_here, by_part, exit_memory, exit_w
 use Rattle.rb_grammar.proofs.Accepting.Starts.{no_procedures, some_procedure}
 use Rattle.rb_grammar.specs.Parts.{Part}
 use Rattle.rb_grammar.specs.Table.{procedures_after}
-use Rattle.rb_grammar.specs.declared.stop.Stop.TheVariants as stops
 use Rattle.rb_parse.proofs.program.read_procedures.Goals as goal
 
 pub procedures-init : goal.procedures-init
@@ -21,15 +20,15 @@ returns-in_err-procedure-clause-err c =
     (within c.procedures.invariant.reached (begins_here (Part.Procedure c.args.edition) _ (procedures_after c.args.edition) refl
     (some_procedure c.args.edition _ (sym c.procedures-test.ensures)))) c.in_err-procedure.ensures.err
 
-pub returns-in_err-push-clause-err : goal.returns-in_err-push-clause-err
-returns-in_err-push-clause-err c =
-    exit_memory _ _ _ c.from_residual-in_err-push.result stops.Memory c.from_residual-in_err-push.ensures.1 refl
+pub returns-in_err-append-clause-err : goal.returns-in_err-append-clause-err
+returns-in_err-append-clause-err c =
+    exit_memory _ _ _ c.from_residual-in_err-append.result _ c.from_residual-in_err-append.ensures.1 c.in_err-append.ensures.memory
 
 pub procedures-preserved : goal.procedures-preserved
 procedures-preserved c =
     record {
-      reached = procedures_step c.args.edition c.procedures.procedures.items c.push.new.self.items c.in_ok-procedure.procedure
-          c.in_ok-push.ensures.items c.procedures.invariant.reached
+      reached = procedures_step c.args.edition c.procedures.procedures.items c.append.new.list.items c.in_ok-procedure.procedure
+          c.in_ok-append.ensures.items c.procedures.invariant.reached
           (by_part (begins_here (Part.Procedure c.args.edition) _ (procedures_after c.args.edition) refl
           (some_procedure c.args.edition _ (sym c.procedures-test.ensures))) c.in_ok-procedure.ensures.ok);
       ending = c.in_ok-procedure.ensures.ending ∙ c.procedures.invariant.ending;

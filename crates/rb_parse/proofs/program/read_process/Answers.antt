@@ -4,7 +4,8 @@ use Rattle.rb_grammar.proofs.Pairs.{by_named, exit_two, opens}
 use Rattle.rb_grammar.proofs.Reaching.{by_part, by_terminal, complete, exit_missed, exit_within, same_value}
 use Rattle.rb_grammar.proofs.Accepting.Starts.{no_process}
 use Rattle.rb_grammar.specs.Parts.{Part}
-use Rattle.rb_syntax.specs.Plain.{commands_of, declaration, procedure_declaration}
+use Rattle.rb_syntax.specs.Plain.{commands_of, declaration, procedure_declaration, process_declaration}
+use Rattle.rb_parse.proofs.Closing.{last_closed, last_missed}
 use Rattle.rb_parse.proofs.program.read_process.Goals as goal
 
 pub returns-in_err-name-clause-err : goal.returns-in_err-name-clause-err
@@ -42,20 +43,21 @@ returns-in_err-body-clause-err c =
     (no_process c.args.edition _) refl) c.in_ok-name.ensures.ok) c.in_ok-take.ensures.ok) c.in_ok-vars.ensures.ok)
     c.in_ok-procedures.ensures.ok) c.in_err-body.ensures.err
 
-pub returns-in_err-take-2-clause-err : goal.returns-in_err-take-2-clause-err
-returns-in_err-take-2-clause-err c =
-    exit_missed c.from_residual-in_err-take-2.result c.from_residual-in_err-take-2.ensures.1
+pub returns-clause-err : goal.returns-clause-err
+returns-clause-err c =
+    last_missed _ _ c.closed.result
     (c.in_ok-body.ensures.ending ∙ c.in_ok-procedures.ensures.ending ∙ c.in_ok-vars.ensures.ending ∙ c.in_ok-take.ensures.ending ∙
     c.in_ok-name.ensures.ending) (by_part (by_part (by_part
     (by_terminal (by_named (opens (Part.Process c.args.edition) c.args.cursor.now.point _ refl (no_process c.args.edition _) refl)
     c.in_ok-name.ensures.ok) c.in_ok-take.ensures.ok) c.in_ok-vars.ensures.ok) c.in_ok-procedures.ensures.ok)
-    c.in_ok-body.ensures.ok) c.in_err-take-2.ensures.err
+    c.in_ok-body.ensures.ok) c.closed.ensures.err
 
 pub returns-clause-ok : goal.returns-clause-ok
 returns-clause-ok c =
-    same_value (ap (process_of (map declaration c.in_ok-vars.vars.items)
+    last_closed _ c.closed.result process_declaration _ (λ token taken. same_value (ap (process_of (map declaration c.in_ok-vars.vars.items)
     (map procedure_declaration c.in_ok-procedures.procedures.items) (commands_of c.in_ok-body.body.items))
     (sym (c.in_ok-name.ensures.ok).named.is)) (complete (by_terminal
     (by_part (by_part (by_part (by_terminal (by_named (opens (Part.Process c.args.edition) c.args.cursor.now.point _ refl
     (no_process c.args.edition _) refl) c.in_ok-name.ensures.ok) c.in_ok-take.ensures.ok) c.in_ok-vars.ensures.ok)
-    c.in_ok-procedures.ensures.ok) c.in_ok-body.ensures.ok) c.in_ok-take-2.ensures.ok))
+    c.in_ok-procedures.ensures.ok) c.in_ok-body.ensures.ok) taken)))
+    c.closed.ensures.same c.closed.ensures.taken

@@ -1,6 +1,8 @@
 use Rattle.std.proofs.Common.{refl, sym, ◌∙◌}
-use Rattle.rb_grammar.proofs.Reaching.{by_part, by_terminal, complete, exit_missed, exit_sure, exit_within, last_start, same_value, starts}
+use Rattle.rb_grammar.proofs.Reaching.{by_part, by_terminal, complete, exit_sure, exit_within, last_start, same_value, starts}
 use Rattle.rb_syntax.proofs.Bridge.{command_print}
+use Rattle.rb_syntax.specs.Plain.{command}
+use Rattle.rb_parse.proofs.Closing.{last_closed, last_missed}
 use Rattle.rb_parse.proofs.simple_statements.read_print.Goals as goal
 
 pub returns-in_err-take-clause-err : goal.returns-in_err-take-clause-err
@@ -12,13 +14,14 @@ returns-in_err-items-clause-err c =
     λ edition. exit_within c.from_residual-in_err-items.result c.from_residual-in_err-items.ensures.1 c.in_ok-take.ensures.ending
     (starts _ refl c.in_ok-take.ensures.ok) c.in_err-items.ensures.err
 
-pub returns-in_err-take-2-clause-err : goal.returns-in_err-take-2-clause-err
-returns-in_err-take-2-clause-err c =
-    λ edition. exit_missed c.from_residual-in_err-take-2.result c.from_residual-in_err-take-2.ensures.1
+pub returns-clause-err : goal.returns-clause-err
+returns-clause-err c =
+    λ edition. last_missed _ _ c.closed.result
     (c.in_ok-items.ensures.ending ∙ c.in_ok-take.ensures.ending)
-    (by_part (starts _ refl c.in_ok-take.ensures.ok) c.in_ok-items.ensures.ok) c.in_err-take-2.ensures.err
+    (by_part (starts _ refl c.in_ok-take.ensures.ok) c.in_ok-items.ensures.ok) c.closed.ensures.err
 
 pub returns-clause-ok : goal.returns-clause-ok
 returns-clause-ok c =
-    λ edition. same_value (sym (command_print c.in_ok-items.items))
-    (complete (by_terminal (by_part (starts _ refl c.in_ok-take.ensures.ok) c.in_ok-items.ensures.ok) c.in_ok-take-2.ensures.ok))
+    λ edition. last_closed _ c.closed.result command _ (λ token taken. same_value (sym (command_print c.in_ok-items.items))
+    (complete (by_terminal (by_part (starts _ refl c.in_ok-take.ensures.ok) c.in_ok-items.ensures.ok) taken)))
+    c.closed.ensures.same c.closed.ensures.taken

@@ -1,10 +1,11 @@
 use Rattle.std.proofs.Common.{refl, sym, ap, ◌∙◌}
 use Rattle.rb_grammar.proofs.Pairs.{by_named, exit_two, opens_sure}
 use Rattle.rb_grammar.specs.Parts.{Part}
-use Rattle.rb_grammar.proofs.Reaching.{by_part, by_terminal, complete, exit_missed, exit_within, same_value}
+use Rattle.rb_grammar.proofs.Reaching.{by_part, by_terminal, complete, exit_within, same_value}
 use Rattle.rb_syntax.proofs.Bridge.{command_send}
-use Rattle.rb_syntax.specs.Plain.{expression}
+use Rattle.rb_syntax.specs.Plain.{command, expression}
 use Rattle.rb_syntax.specs.Tree.{Sending}
+use Rattle.rb_parse.proofs.Closing.{last_closed, last_missed}
 use Rattle.rb_parse.proofs.simple_statements.read_send.Goals as goal
 
 pub returns-in_err-channel-clause-err : goal.returns-in_err-channel-clause-err
@@ -18,16 +19,17 @@ returns-in_err-value-clause-err c =
     (c.in_ok-channel.ensures.ending) (by_named (opens_sure (Part.Statement edition) c.args.cursor.now.point _ refl c.requires)
     c.in_ok-channel.ensures.ok) c.in_err-value.ensures.err
 
-pub returns-in_err-take-clause-err : goal.returns-in_err-take-clause-err
-returns-in_err-take-clause-err c =
-    λ edition. exit_missed c.from_residual-in_err-take.result c.from_residual-in_err-take.ensures.1
+pub returns-clause-err : goal.returns-clause-err
+returns-clause-err c =
+    λ edition. last_missed _ _ c.closed.result
     (c.in_ok-value.ensures.ending ∙ c.in_ok-channel.ensures.ending)
     (by_part (by_named (opens_sure (Part.Statement edition) c.args.cursor.now.point _ refl c.requires) c.in_ok-channel.ensures.ok)
-    c.in_ok-value.ensures.ok) c.in_err-take.ensures.err
+    c.in_ok-value.ensures.ok) c.closed.ensures.err
 
 pub returns-clause-ok : goal.returns-clause-ok
 returns-clause-ok c =
-    λ edition. same_value (ap (λ name. Sending name (expression c.in_ok-value.value)) (sym (c.in_ok-channel.ensures.ok).named.is)
+    λ edition. last_closed _ c.closed.result command _ (λ token taken. same_value (ap (λ name. Sending name (expression c.in_ok-value.value)) (sym (c.in_ok-channel.ensures.ok).named.is)
     ∙ sym (command_send c.in_ok-channel.channel c.in_ok-value.value))
     (complete (by_terminal (by_part (by_named (opens_sure (Part.Statement edition) c.args.cursor.now.point _ refl c.requires)
-    c.in_ok-channel.ensures.ok) c.in_ok-value.ensures.ok) c.in_ok-take.ensures.ok))
+    c.in_ok-channel.ensures.ok) c.in_ok-value.ensures.ok) taken))) c.closed.ensures.same
+    c.closed.ensures.taken

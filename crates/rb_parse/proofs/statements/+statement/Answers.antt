@@ -1,7 +1,7 @@
 use Rattle.std.proofs.Common.{None, refl, sym, ap, ◌∙◌, arith}
 use Rattle.rb_grammar.proofs.Accepting.Forms.{other_alternate, statement_recovery}
 use Rattle.rb_grammar.proofs.Made.{recovery_made}
-use Rattle.rb_grammar.proofs.Pushing.{alternates_end, alternates_init, alternates_step, statements_end, statements_init, statements_step}
+use Rattle.rb_grammar.proofs.Pushing.{alternates_end, statements_end, statements_init, statements_step}
 use Rattle.rb_grammar.proofs.Pairs.{by_named, exit_two, opens_sure}
 use Rattle.rb_grammar.proofs.Reaching.{begins, begins_here, by_part, by_terminal, complete, exit_first, exit_memory, exit_missed}
 use Rattle.rb_grammar.proofs.Reaching.{exit_sure, exit_within, last_start, passes, same_value, starts, within}
@@ -12,11 +12,12 @@ use Rattle.rb_grammar.specs.Grammar.{joined}
 use Rattle.rb_grammar.specs.Parts.{Part}
 use Rattle.rb_grammar.specs.StatementTable.{alternates_after, recovering_after, start_statement, statements_after}
 use Rattle.rb_syntax.proofs.Bridge.{command_if, command_receive, command_recover, command_while}
-use Rattle.rb_syntax.specs.Plain.{alternates_of, expression, otherwise, recovery_block, reference}
+use Rattle.rb_syntax.specs.Plain.{alternates_of, body, expression, otherwise, recovery_block, reference}
 use Rattle.rb_syntax.specs.Tree.{NoElse, Receiving, Recovering, Recovers}
 use Rattle.std.specs.Option.{is_some}
-use Rattle.rb_grammar.specs.declared.stop.Stop.TheVariants as stops
 use Rattle.rb_base.specs.declared.edition.Edition.TheVariants as editions
+use Rattle.rb_parse.proofs.Closing.{last_closed, last_missed}
+use Rattle.rb_parse.proofs.Lists.{alternate_first, alternate_read}
 use Rattle.rb_parse.proofs.statements.+statement.Goals as goal
 
 pub read_statements-statements-init : goal.read_statements-statements-init
@@ -34,15 +35,15 @@ read_statements-returns-in_err-statement-clause-err t c =
     (sym (same_statements c.args.edition _) ∙ ap (λ first. is_some (start_statement editions.First first)) (sym c.look.ensures) ∙
     sym c.statements-test.ensures))) c.in_err-statement.ensures.err
 
-pub read_statements-returns-in_err-push-clause-err : goal.read_statements-returns-in_err-push-clause-err
-read_statements-returns-in_err-push-clause-err t c =
-    exit_memory _ _ _ c.from_residual-in_err-push.result stops.Memory c.from_residual-in_err-push.ensures.1 refl
+pub read_statements-returns-in_err-append-clause-err : goal.read_statements-returns-in_err-append-clause-err
+read_statements-returns-in_err-append-clause-err t c =
+    exit_memory _ _ _ c.from_residual-in_err-append.result _ c.from_residual-in_err-append.ensures.1 c.in_err-append.ensures.memory
 
 pub read_statements-statements-preserved : goal.read_statements-statements-preserved
 read_statements-statements-preserved t c =
     record {
-      reached = statements_step c.args.edition c.statements.statements.items c.push.new.self.items c.in_ok-statement.statement
-          c.in_ok-push.ensures.items c.statements.invariant.reached
+      reached = statements_step c.args.edition c.statements.statements.items c.append.new.list.items c.in_ok-statement.statement
+          c.in_ok-append.ensures.items c.statements.invariant.reached
           (by_part (begins_here (Part.Statement c.args.edition) _ (statements_after c.args.edition) refl
           (sym (same_statements c.args.edition _) ∙ ap (λ first. is_some (start_statement editions.First first))
           (sym c.look.ensures) ∙ sym c.statements-test.ensures)) c.in_ok-statement.ensures.ok);
@@ -72,17 +73,18 @@ read_block-returns-in_err-body-clause-err t c =
     (c.in_ok-vars.ensures.ending ∙ c.in_ok-take.ensures.ending)
     (by_part (starts _ refl c.in_ok-take.ensures.ok) c.in_ok-vars.ensures.ok) c.in_err-body.ensures.err
 
-pub read_block-returns-in_err-take-2-clause-err : goal.read_block-returns-in_err-take-2-clause-err
-read_block-returns-in_err-take-2-clause-err t c =
-    exit_missed c.from_residual-in_err-take-2.result c.from_residual-in_err-take-2.ensures.1
+pub read_block-returns-clause-err : goal.read_block-returns-clause-err
+read_block-returns-clause-err t c =
+    last_missed _ _ c.closed.result
     (c.in_ok-body.ensures.ending ∙ c.in_ok-vars.ensures.ending ∙ c.in_ok-take.ensures.ending)
     (by_part (by_part (starts _ refl c.in_ok-take.ensures.ok) c.in_ok-vars.ensures.ok) c.in_ok-body.ensures.ok)
-    c.in_err-take-2.ensures.err
+    c.closed.ensures.err
 
 pub read_block-returns-clause-ok : goal.read_block-returns-clause-ok
 read_block-returns-clause-ok t c =
-    complete (by_terminal (by_part (by_part (starts _ refl c.in_ok-take.ensures.ok) c.in_ok-vars.ensures.ok)
-    c.in_ok-body.ensures.ok) c.in_ok-take-2.ensures.ok)
+    last_closed _ c.closed.result body _ (λ token taken. complete (by_terminal (by_part (by_part (starts _ refl c.in_ok-take.ensures.ok) c.in_ok-vars.ensures.ok)
+    c.in_ok-body.ensures.ok) taken)) c.closed.ensures.same
+    c.closed.ensures.taken
 
 pub read_if-returns-in_err-take-clause-err : goal.read_if-returns-in_err-take-clause-err
 read_if-returns-in_err-take-clause-err t c =
@@ -239,91 +241,82 @@ read_recovery-returns-in_err-token-clause-err t c =
     exit_first (Part.Recovery c.args.edition) _ refl (no_recovery c.args.edition _) refl c.from_residual.result
     c.from_residual.ensures.1 refl c.in_err-token.ensures.err
 
+pub read_recovery-returns-in_err-tested-clause-err : goal.read_recovery-returns-in_err-tested-clause-err
+read_recovery-returns-in_err-tested-clause-err t c =
+    exit_within c.from_residual-in_err-tested.result c.from_residual-in_err-tested.ensures.1 c.in_ok-token.ensures.ending
+    (starts _ refl c.in_ok-token.ensures.ok) c.in_err-tested.ensures.err
+
 pub read_recovery-returns-in_err-test-clause-err : goal.read_recovery-returns-in_err-test-clause-err
 read_recovery-returns-in_err-test-clause-err t c =
-    exit_within c.from_residual-in_err-test.result c.from_residual-in_err-test.ensures.1 c.in_ok-token.ensures.ending
-    (starts _ refl c.in_ok-token.ensures.ok) c.in_err-test.ensures.err
-
-pub read_recovery-returns-in_err-take-clause-err : goal.read_recovery-returns-in_err-take-clause-err
-read_recovery-returns-in_err-take-clause-err t c =
-    exit_missed c.from_residual-in_err-take.result c.from_residual-in_err-take.ensures.1
-    (c.in_ok-test.ensures.ending ∙ c.in_ok-token.ensures.ending)
-    (by_part (starts _ refl c.in_ok-token.ensures.ok) c.in_ok-test.ensures.ok) c.in_err-take.ensures.err
+    exit_missed c.from_residual-in_err-test.result c.from_residual-in_err-test.ensures.1
+    (c.in_ok-tested.ensures.ending ∙ c.in_ok-token.ensures.ending)
+    (by_part (starts _ refl c.in_ok-token.ensures.ok) c.in_ok-tested.ensures.ok) c.in_err-test.ensures.err
 
 pub read_recovery-returns-in_err-bound-clause-err : goal.read_recovery-returns-in_err-bound-clause-err
 read_recovery-returns-in_err-bound-clause-err t c =
     exit_within c.from_residual-in_err-bound.result c.from_residual-in_err-bound.ensures.1
-    (c.in_ok-take.ensures.ending ∙ c.in_ok-test.ensures.ending ∙ c.in_ok-token.ensures.ending)
-    (by_terminal (by_part (starts _ refl c.in_ok-token.ensures.ok) c.in_ok-test.ensures.ok) c.in_ok-take.ensures.ok)
+    (c.in_ok-test.ensures.ending ∙ c.in_ok-tested.ensures.ending ∙ c.in_ok-token.ensures.ending)
+    (by_terminal (by_part (starts _ refl c.in_ok-token.ensures.ok) c.in_ok-tested.ensures.ok) c.in_ok-test.ensures.taken.1)
     c.in_err-bound.ensures.err
 
 pub read_recovery-returns-in_err-alternates-clause-err : goal.read_recovery-returns-in_err-alternates-clause-err
 read_recovery-returns-in_err-alternates-clause-err t c =
     exit_within c.from_residual-in_err-alternates.result c.from_residual-in_err-alternates.ensures.1
-    (c.in_ok-bound.ensures.ending ∙ c.in_ok-take.ensures.ending ∙ c.in_ok-test.ensures.ending ∙ c.in_ok-token.ensures.ending)
-    (by_part (by_terminal (by_part (starts _ refl c.in_ok-token.ensures.ok) c.in_ok-test.ensures.ok) c.in_ok-take.ensures.ok)
+    (c.in_ok-bound.ensures.ending ∙ c.in_ok-test.ensures.ending ∙ c.in_ok-tested.ensures.ending ∙ c.in_ok-token.ensures.ending)
+    (by_part (by_terminal (by_part (starts _ refl c.in_ok-token.ensures.ok) c.in_ok-tested.ensures.ok) c.in_ok-test.ensures.taken.1)
     c.in_ok-bound.ensures.ok) c.in_err-alternates.ensures.err
 
 pub read_recovery-returns-clause-ok : goal.read_recovery-returns-clause-ok
 read_recovery-returns-clause-ok t c =
-    same_value (ap (λ number. Recovers number None c.in_ok-token.token.place (expression c.in_ok-test.test) c.in_ok-bound.bound
-    (alternates_of c.in_ok-alternates.alternates.items)) (sym c.recoveries-number.ensures) ∙ sym
-    (recovery_made c.recoveries-number.result c.in_ok-token.token.place c.in_ok-test.test c.in_ok-bound.bound
-    c.in_ok-alternates.alternates)) (complete (by_part (by_part
-    (by_terminal (by_part (starts _ refl c.in_ok-token.ensures.ok) c.in_ok-test.ensures.ok) c.in_ok-take.ensures.ok)
-    c.in_ok-bound.ensures.ok) c.in_ok-alternates.ensures.ok))
-
-pub read_alternates-returns-in_err-first-clause-err : goal.read_alternates-returns-in_err-first-clause-err
-read_alternates-returns-in_err-first-clause-err t c =
-    exit_within c.from_residual.result c.from_residual.ensures.1 refl
-    (begins (Part.Alternate c.args.edition) _ (alternates_after c.args.edition) refl refl refl) c.in_err-first.ensures.err
-
-pub read_alternates-returns-in_err-push-clause-err : goal.read_alternates-returns-in_err-push-clause-err
-read_alternates-returns-in_err-push-clause-err t c =
-    exit_memory _ _ _ c.from_residual-in_err-push.result stops.Memory c.from_residual-in_err-push.ensures.1 refl
+    same_value (sym (recovery_made c.recoveries-number.result c.in_ok-token.token.place c.in_ok-test.test c.in_ok-bound.bound
+    c.in_ok-alternates.alternates)) (same_value (λ j. Recovers (sym c.recoveries-number.ensures j) None c.in_ok-token.token.place
+    (expression (sym c.in_ok-test.ensures.same j)) c.in_ok-bound.bound (alternates_of c.in_ok-alternates.alternates.items)) (complete (by_part (by_part
+    (by_terminal (by_part (starts _ refl c.in_ok-token.ensures.ok) c.in_ok-tested.ensures.ok) c.in_ok-test.ensures.taken.1)
+    c.in_ok-bound.ensures.ok) c.in_ok-alternates.ensures.ok)))
 
 pub read_alternates-alternates-init : goal.read_alternates-alternates-init
 read_alternates-alternates-init t c =
     record {
-      reached = alternates_init c.args.edition c.new-alternates.result.items _ c.in_ok-first.first c.new-alternates.ensures.items
-          c.in_ok-push.ensures.items (by_part (begins (Part.Alternate c.args.edition) _ (alternates_after c.args.edition) refl
-          refl refl) c.in_ok-first.ensures.ok);
-      ending = c.in_ok-first.ensures.ending;
-      shorter = c.in_ok-first.ensures.shorter;
+      reached = alternate_first c.args.edition c.new-alternates.result.items c.args.cursor.now.point c.new-alternates.ensures.items;
+      ending = refl;
+      shorter = omega arith;
     }
 
 pub read_alternates-returns-in_err-alternate-clause-err : goal.read_alternates-returns-in_err-alternate-clause-err
 read_alternates-returns-in_err-alternate-clause-err t c =
-    exit_within c.from_residual-in_err-alternate.result c.from_residual-in_err-alternate.ensures.1 c.alternates.invariant.ending
-    (within c.alternates.invariant.reached (begins (Part.Alternate c.args.edition) _ (alternates_after c.args.edition)
-    (other_alternate c.args.edition _ (some_alternate c.args.edition _ (sym c.alternates-test.ensures))) refl refl))
+    exit_within c.from_residual.result c.from_residual.ensures.1 c.alternates.invariant.ending c.alternates.invariant.reached
     c.in_err-alternate.ensures.err
 
-pub read_alternates-returns-in_err-push-2-clause-err : goal.read_alternates-returns-in_err-push-2-clause-err
-read_alternates-returns-in_err-push-2-clause-err t c =
-    exit_memory _ _ _ c.from_residual-in_err-push-2.result stops.Memory c.from_residual-in_err-push-2.ensures.1 refl
-
-pub read_alternates-alternates-preserved : goal.read_alternates-alternates-preserved
-read_alternates-alternates-preserved t c =
-    record {
-      reached = alternates_step c.args.edition c.alternates.alternates.items c.push-in-alternates.new.self.items
-          c.in_ok-alternate.alternate c.in_ok-push-2.ensures.items c.alternates.invariant.reached
-          (by_part (begins (Part.Alternate c.args.edition) _ (alternates_after c.args.edition)
-          (other_alternate c.args.edition _ (some_alternate c.args.edition _ (sym c.alternates-test.ensures))) refl refl)
-          c.in_ok-alternate.ensures.ok);
-      ending = c.in_ok-alternate.ensures.ending ∙ c.alternates.invariant.ending;
-      shorter = omega (arith, c.in_ok-alternate.ensures.shorter, c.alternates.invariant.shorter);
-    }
+pub read_alternates-returns-in_err-append-clause-err : goal.read_alternates-returns-in_err-append-clause-err
+read_alternates-returns-in_err-append-clause-err t c =
+    exit_memory _ _ _ c.from_residual-in_err-append.result _ c.from_residual-in_err-append.ensures.1 c.in_err-append.ensures.memory
 
 pub read_alternates-returns-in_err-read_no_alternate-clause-err : goal.read_alternates-returns-in_err-read_no_alternate-clause-err
 read_alternates-returns-in_err-read_no_alternate-clause-err t c =
     exit_within c.from_residual-in_err-read_no_alternate.result c.from_residual-in_err-read_no_alternate.ensures.1
-    c.alternates.invariant.ending c.alternates.invariant.reached (c.in_err-read_no_alternate.ensures.err c.args.edition)
+    (c.in_ok-alternate.ensures.ending ∙ c.alternates.invariant.ending)
+    (alternate_read c.args.edition c.alternates.alternates.items c.append.new.list.items c.in_ok-alternate.alternate
+    c.in_ok-append.ensures.items (by_part c.alternates.invariant.reached c.in_ok-alternate.ensures.ok))
+    (c.in_err-read_no_alternate.ensures.err c.args.edition)
 
-pub read_alternates-returns-clause-ok : goal.read_alternates-returns-clause-ok
-read_alternates-returns-clause-ok t c =
-    alternates_end c.args.edition c.alternates.alternates.items c.alternates.invariant.reached
+pub read_alternates-returns-then-not-stands_at-clause-ok : goal.read_alternates-returns-then-not-stands_at-clause-ok
+read_alternates-returns-then-not-stands_at-clause-ok t c =
+    alternates_end c.args.edition c.append.new.list.items
+    (alternate_read c.args.edition c.alternates.alternates.items c.append.new.list.items c.in_ok-alternate.alternate
+    c.in_ok-append.ensures.items (by_part c.alternates.invariant.reached c.in_ok-alternate.ensures.ok))
     (c.in_ok-read_no_alternate.ensures.ok c.args.edition)
+
+pub read_alternates-alternates-preserved : goal.read_alternates-alternates-preserved
+read_alternates-alternates-preserved t c =
+    record {
+      reached = within (alternate_read c.args.edition c.alternates.alternates.items c.append.new.list.items
+          c.in_ok-alternate.alternate c.in_ok-append.ensures.items
+          (by_part c.alternates.invariant.reached c.in_ok-alternate.ensures.ok))
+          (begins (Part.Alternate c.args.edition) _ (alternates_after c.args.edition)
+          (other_alternate c.args.edition _ (some_alternate c.args.edition _ (sym c.if-not-stands_at.ensures))) refl refl);
+      ending = c.in_ok-alternate.ensures.ending ∙ c.alternates.invariant.ending;
+      shorter = omega (arith, c.in_ok-alternate.ensures.shorter, c.alternates.invariant.shorter);
+    }
 
 pub read_alternate-returns-in_err-take-clause-err : goal.read_alternate-returns-in_err-take-clause-err
 read_alternate-returns-in_err-take-clause-err t c =
@@ -335,12 +328,13 @@ read_alternate-returns-in_err-block-clause-err t c =
     exit_within c.from_residual-in_err-block.result c.from_residual-in_err-block.ensures.1 c.in_ok-take.ensures.ending
     (starts _ refl c.in_ok-take.ensures.ok) c.in_err-block.ensures.err
 
-pub read_alternate-returns-in_err-take-2-clause-err : goal.read_alternate-returns-in_err-take-2-clause-err
-read_alternate-returns-in_err-take-2-clause-err t c =
-    exit_missed c.from_residual-in_err-take-2.result c.from_residual-in_err-take-2.ensures.1
+pub read_alternate-returns-clause-err : goal.read_alternate-returns-clause-err
+read_alternate-returns-clause-err t c =
+    last_missed _ _ c.closed.result
     (c.in_ok-block.ensures.ending ∙ c.in_ok-take.ensures.ending)
-    (by_part (starts _ refl c.in_ok-take.ensures.ok) c.in_ok-block.ensures.ok) c.in_err-take-2.ensures.err
+    (by_part (starts _ refl c.in_ok-take.ensures.ok) c.in_ok-block.ensures.ok) c.closed.ensures.err
 
 pub read_alternate-returns-clause-ok : goal.read_alternate-returns-clause-ok
 read_alternate-returns-clause-ok t c =
-    complete (by_terminal (by_part (starts _ refl c.in_ok-take.ensures.ok) c.in_ok-block.ensures.ok) c.in_ok-take-2.ensures.ok)
+    last_closed _ c.closed.result body _ (λ token taken. complete (by_terminal (by_part (starts _ refl c.in_ok-take.ensures.ok) c.in_ok-block.ensures.ok) taken)) c.closed.ensures.same
+    c.closed.ensures.taken

@@ -1,8 +1,9 @@
-use Rattle.std.proofs.Common.{length, ◌≡◌, ◌≤◌, ◌<◌, ◌*◌, ◌+◌}
-use Rattle.rb_grammar.proofs.Pushing.{after_alternates, after_statements}
+use Rattle.std.proofs.Common.{length, ◌≡◌, ◌≤◌, ◌*◌, ◌+◌}
+use Rattle.rb_grammar.proofs.Pushing.{after_statements}
 use Rattle.rb_grammar.proofs.Reaching.{Reaches}
 use Rattle.rb_grammar.specs.Parts.{Part}
 use Rattle.rb_grammar.specs.Plans.{Call}
+use Rattle.rb_parse.proofs.Lists.{alternate_next}
 use Rattle.rb_parse.proofs.statements.+statement.Given as goal
 
 abbrev pub decreases-read_statements : goal.decreases-read_statements
@@ -60,9 +61,9 @@ decreases-read_statements-statements l = length l.cursor.point.left
 abbrev pub invariant-read_alternates-alternates : goal.invariant-read_alternates-alternates
 invariant-read_alternates-alternates l = record {
   reached : Reaches (Part.Alternates l.edition) l.fn.cursor.point
-      (Call (Part.OtherAlternates l.edition) (after_alternates l.alternates.items)) l.cursor.point;
+      (Call (Part.Alternate l.edition) (alternate_next l.edition l.alternates.items)) l.cursor.point;
   ending : l.cursor.ending ≡ l.fn.cursor.ending;
-  shorter : length l.cursor.point.left < length l.fn.cursor.point.left;
+  shorter : length l.cursor.point.left ≤ length l.fn.cursor.point.left;
 }
 
 abbrev pub decreases-read_alternates-alternates : goal.decreases-read_alternates-alternates
