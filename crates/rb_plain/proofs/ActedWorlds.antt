@@ -163,6 +163,15 @@ module _ (tree : Tree) (kept : Kept) (q : PlainProcess) (w : PlainWorld) where
           ∙ ap (λ b. option_map (λ m. m.world) (when (true && b) (plain_steps (unkept_kind tree) kept None q w))) room
           ∙ performed command None first
 
+      -- a send without room
+      pub sends_not : (c : ℕ) → wants tree command ≡ SendsOn c → has_room (unkept_kind tree) w c ≡ false → acted_world tree kept q w ≡ None
+      sends_not c e full =
+          ap CanAct (wanted (SendsOn c) e)
+          ∙ ap
+          (λ b. option_map (λ m. m.world) (when (b && has_room (unkept_kind tree) w c) (plain_steps (unkept_kind tree) kept None q w)))
+          (given_none plain)
+          ∙ ap (λ b. option_map (λ m. m.world) (when (true && b) (plain_steps (unkept_kind tree) kept None q w))) full
+
       -- a receipt whose message is there
       received : (message : Option ℤ) → is_some message ≡ true
           → option_map (λ m. m.world) (plain_receives (unkept_kind tree) kept q w message)
@@ -180,6 +189,22 @@ module _ (tree : Tree) (kept : Kept) (q : PlainProcess) (w : PlainWorld) where
           (given_none plain)
           ∙ ap (λ o. option_map (λ m. m.world) (plain_receives (unkept_kind tree) kept q w o)) (sym is)
           ∙ received message there
+
+      -- a receipt whose message is not there
+      received_not : (message : Option ℤ) → is_some message ≡ false
+          → option_map (λ m. m.world) (plain_receives (unkept_kind tree) kept q w message) ≡ None
+      received_not None missing = refl
+      received_not (Some v) missing = cc
+
+      pub receives_not : (c : ℕ) (message : Option ℤ) → wants tree command ≡ ReceivesOn c
+          → message ≡ message_there (unkept_kind tree) w c → is_some message ≡ false → acted_world tree kept q w ≡ None
+      receives_not c message e is missing =
+          ap CanAct (wanted (ReceivesOn c) e)
+          ∙ ap
+          (λ b. option_map (λ m. m.world) (when b (plain_receives (unkept_kind tree) kept q w (message_there (unkept_kind tree) w c))))
+          (given_none plain)
+          ∙ ap (λ o. option_map (λ m. m.world) (plain_receives (unkept_kind tree) kept q w o)) (sym is)
+          ∙ received_not message missing
 
       -- a receipt that may find nothing
       pub may_receive : (c : ℕ) (message : Option ℤ) → wants tree command ≡ MayReceiveOn c → message ≡ message_there (unkept_kind tree) w c
