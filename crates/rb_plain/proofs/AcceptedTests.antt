@@ -1,5 +1,5 @@
 -- What an acceptance test that held comes to: a private level goes, and a member comes to its test line.
-use Rattle.std.proofs.Common.{◌≡◌, ℕ, List, map, set, Option, Some, None, option_map, ap, sym, ◌∙◌, subst}
+use Rattle.std.proofs.Common.{◌≡◌, ℕ, List, map, set, Option, Some, None, option_map, refl, ap, sym, ◌∙◌, subst}
 use Rattle.rb_syntax.specs.Tree.{Tree}
 use Rattle.rb_world.specs.Turn.{accepted, accepted_at, at_test_line, stands_now}
 use Rattle.rb_world.specs.World.{Level as Open, last_of, settled, with_process, without_last}
@@ -17,6 +17,11 @@ abbrev pub conversation_at : Option (Open EntryPoint) → Option (Option ℕ)
 conversation_at level = option_map (λ one. one.facts.conversation) level
 
 module _ (tree : Tree) (p : ℕ) (levels : List (Open EntryPoint)) (w : PlainWorld) (s : State) where
+  -- without a level nothing changes
+  pub no_level : (o : Option (Open EntryPoint)) → conversation_at o ≡ None → w ≡ (accepted (unkept_kind tree) p levels o w (s, tt)).world
+  no_level None e = refl
+  no_level (Some level) e = cc
+
   -- what it comes to, by the innermost level, and by its conversation
   comes : (o : Option (Open EntryPoint)) (c : Option ℕ) → conversation_at o ≡ Some c
       → (accepted_at (unkept_kind tree) p levels c w (s, tt)).world ≡ (accepted (unkept_kind tree) p levels o w (s, tt)).world

@@ -1,10 +1,11 @@
 -- The world after a running process acted, for each form of what stands first.
-use Rattle.std.proofs.Common.{◌≡◌, ◌∷◌, ◌++◌, ℕ, ℤ, Bool, true, false, cond, nat_eq, nat_lt, ◌&&◌, ◌⊎◌, inl, inr, List, [], length, Option, Some, None, option_map, Result, Ok, Err, refl, ap, sym, ◌∙◌, subst, arith}
+use Rattle.std.proofs.Common.{◌≡◌, ◌∷◌, ◌++◌, ℕ, ℤ, Bool, true, false, cond, nat_eq, nat_lt, ◌&&◌, ◌⊎◌, inl, inr, List, [], length, Option, Some, None, option_map, Result, Ok, Err, refl, ap, sym, ◌∙◌, subst, true≢false, arith}
 use Rattle.std.specs.Option.{is_some}
 use Rattle.std.proofs.lemmas.Bool.Decides.{nat_tests}
 use Rattle.rb_base.specs.declared.event.Cause.{Cause}
 use Rattle.rb_base.specs.declared.event.Cause.TheVariants.{Test}
-use Rattle.rb_syntax.specs.Tree.{Tree, Command, Recovering, RecoveryBlock}
+use Rattle.rb_syntax.specs.Plain.{command}
+use Rattle.rb_syntax.specs.Tree.{Tree, Assignment, Command, Conditional, Else, Failure, Invocation, Loop, NoElse, Printing, Receiving, Recovering, RecoveryBlock, Sending}
 use Rattle.rb_world.specs.Kind.{Want, NothingLeft, SendsOn, ReceivesOn, MayReceiveOn, Enters, Starts, Acts, Stepped, Trapped, Went, Held}
 use Rattle.rb_world.specs.World.{copy_of, goes_on, last_of, settled}
 use Rattle.rb_world.specs.Channels.{has_room, message_there}
@@ -22,6 +23,7 @@ use Rattle.rb_walk.specs.declared.halt.Halt.TheVariants.{Stuck, Memory}
 use Rattle.rb_walk.specs.Comes.{Judges}
 use Rattle.rb_walk.specs.declared.items.First.{First}
 use Rattle.rb_walk.specs.declared.items.First.TheVariants.{BlockEnd, CallEnd}
+use Rattle.rb_walk.specs.declared.items.First.TheVariants as stands
 use Rattle.rb_walk.specs.Items.{IsFirst, StandsFirst}
 use Rattle.rb_levels.specs.Moves.{PlainProcess, entered_by, gone_on, performed_by, skipped, started_by}
 use Rattle.rb_plain.specs.Turns.{acted_world, may_give, with_moved}
@@ -38,13 +40,26 @@ when_moved : (p : ℕ) (w : PlainWorld) (b : Bool) (o : Option (Moved State Entr
 when_moved p w true o moved e = e
 when_moved p w false o moved e = refl
 
--- no alternate is given at an end
-no_number : (n : ℕ) → nat_eq n 0 ≡ true → n ≡ 0
+-- no alternate is given where there is none to give
+pub no_number : (n : ℕ) → nat_eq n 0 ≡ true → n ≡ 0
 no_number n e = grind (arith, nat_tests)
 
 pub end_given : (first : First) (n : ℕ) → (first ≡ BlockEnd) ⊎ (first ≡ CallEnd) → may_give first n ≡ true → n ≡ 0
 end_given first n (inl e) given = no_number n (subst (λ f. may_give f n ≡ true) e given)
 end_given first n (inr e) given = no_number n (subst (λ f. may_give f n ≡ true) e given)
+
+-- no statement waits for the start of an alternate
+never_starts : (tree : Tree) (command : Command) → wants tree command ≡ Starts → ⊥
+never_starts tree (Assignment to e) starts = cc
+never_starts tree (Printing items) starts = cc
+never_starts tree (Sending channel e) starts = cc
+never_starts tree (Receiving channel to NoElse) starts = cc
+never_starts tree (Receiving channel to (Else body)) starts = cc
+never_starts tree (Conditional test body other) starts = cc
+never_starts tree (Loop test body) starts = cc
+never_starts tree (Invocation procedure arguments) starts = cc
+never_starts tree Failure starts = cc
+never_starts tree (Recovering block) starts = cc
 
 module _ (tree : Tree) (kept : Kept) (q : PlainProcess) (w : PlainWorld) where
   -- what a step of the process comes to
@@ -88,6 +103,17 @@ module _ (tree : Tree) (kept : Kept) (q : PlainProcess) (w : PlainWorld) where
       (when (b && nat_lt (length q.levels) most_levels) (Some (open_at (unkept_kind tree) kept.turn kept.process facts 0 q w)))) e
   stuck_before Starts other e = absurd (other refl)
   stuck_before Acts other e = ap (λ b. option_map (λ m. m.world) (when b (plain_steps (unkept_kind tree) kept None q w))) e
+
+  -- the same, by what stands first
+  pub stuck_given : (first : First) → IsFirst q.state.items first → may_give first kept.alternate ≡ false → acted_world tree kept q w ≡ None
+  stuck_given stands.Nothing first given = ap CanAct (ap (wants_first tree) first)
+  stuck_given (stands.Statement statement) first given =
+      ap CanAct (ap (wants_first tree) first)
+      ∙ stuck_before (wants tree (command statement.now)) (never_starts tree (command statement.now)) given
+  stuck_given (stands.Start block) first given = absurd (true≢false given)
+  stuck_given (stands.Test block) first given = ap CanAct (ap (wants_first tree) first) ∙ stuck_before Acts (λ e. cc) given
+  stuck_given stands.BlockEnd first given = ap CanAct (ap (wants_first tree) first) ∙ stuck_before Acts (λ e. cc) given
+  stuck_given stands.CallEnd first given = ap CanAct (ap (wants_first tree) first) ∙ stuck_before Acts (λ e. cc) given
 
   -- an alternate starts
   pub starts : (block : RecoveryBlock) → StandsFirst (StartOf block) q.state.items
@@ -137,6 +163,15 @@ module _ (tree : Tree) (kept : Kept) (q : PlainProcess) (w : PlainWorld) where
           ∙ ap (λ b. option_map (λ m. m.world) (when (true && b) (plain_steps (unkept_kind tree) kept None q w))) room
           ∙ performed command None first
 
+      -- a send without room
+      pub sends_not : (c : ℕ) → wants tree command ≡ SendsOn c → has_room (unkept_kind tree) w c ≡ false → acted_world tree kept q w ≡ None
+      sends_not c e full =
+          ap CanAct (wanted (SendsOn c) e)
+          ∙ ap
+          (λ b. option_map (λ m. m.world) (when (b && has_room (unkept_kind tree) w c) (plain_steps (unkept_kind tree) kept None q w)))
+          (given_none plain)
+          ∙ ap (λ b. option_map (λ m. m.world) (when (true && b) (plain_steps (unkept_kind tree) kept None q w))) full
+
       -- a receipt whose message is there
       received : (message : Option ℤ) → is_some message ≡ true
           → option_map (λ m. m.world) (plain_receives (unkept_kind tree) kept q w message)
@@ -154,6 +189,22 @@ module _ (tree : Tree) (kept : Kept) (q : PlainProcess) (w : PlainWorld) where
           (given_none plain)
           ∙ ap (λ o. option_map (λ m. m.world) (plain_receives (unkept_kind tree) kept q w o)) (sym is)
           ∙ received message there
+
+      -- a receipt whose message is not there
+      received_not : (message : Option ℤ) → is_some message ≡ false
+          → option_map (λ m. m.world) (plain_receives (unkept_kind tree) kept q w message) ≡ None
+      received_not None missing = refl
+      received_not (Some v) missing = cc
+
+      pub receives_not : (c : ℕ) (message : Option ℤ) → wants tree command ≡ ReceivesOn c
+          → message ≡ message_there (unkept_kind tree) w c → is_some message ≡ false → acted_world tree kept q w ≡ None
+      receives_not c message e is missing =
+          ap CanAct (wanted (ReceivesOn c) e)
+          ∙ ap
+          (λ b. option_map (λ m. m.world) (when b (plain_receives (unkept_kind tree) kept q w (message_there (unkept_kind tree) w c))))
+          (given_none plain)
+          ∙ ap (λ o. option_map (λ m. m.world) (plain_receives (unkept_kind tree) kept q w o)) (sym is)
+          ∙ received_not message missing
 
       -- a receipt that may find nothing
       pub may_receive : (c : ℕ) (message : Option ℤ) → wants tree command ≡ MayReceiveOn c → message ≡ message_there (unkept_kind tree) w c

@@ -1,5 +1,5 @@
 -- The values in which a plain run ends, one after another.
-use Rattle.std.proofs.Common.{◌≡◌, ◌<◌, ◌≤◌, ◌+◌, ℕ, ℤ, pos, zero, suc, List, [], ◌∷◌, ◌++◌, length, map, drop, take, get_or, slice_get, option_map, Option, Some, None, Bor, refl, sym, ap, ap₂, ◌∙◌, subst, arith, length-drop, subst₂}
+use Rattle.std.proofs.Common.{◌≡◌, ◌<◌, ◌≤◌, ◌+◌, ℕ, ℤ, pos, zero, suc, List, [], ◌∷◌, ◌++◌, length, map, drop, take, get_or, slice_get, option_map, Option, Some, None, refl, sym, ap, ap₂, ◌∙◌, subst, arith, length-drop, subst₂}
 use Rattle.std.specs.List.{AllByRecursion, flat_map}
 use Rattle.std.specs.Option.{unwrap_or}
 use Rattle.std.proofs.lemmas.List.{get_or-drop, get_or-map, length-map, take_more}
@@ -24,23 +24,22 @@ use Rattle.rb_meaning.specs.PlainRun.{EntryPoint}
 use Rattle.rb_levels.specs.declared.process.Process.{Process}
 use Rattle.rb_plain.specs.Played.{ProcessesLie, VariablesLie, own_words, words_of_all}
 use Rattle.rb_walk.specs.States.{state_of}
-use Rattle.rb_plain.proofs.LentEnds.{LooksUp, process_at, seen_as}
+use Rattle.rb_plain.proofs.LentEnds.{none_at, there_at}
 use Rattle.rb_levels.specs.Worlds.{process_of, world_of}
 
--- the state of a process that was lent
-state_seen : (found : Option (Bor Process))
-    → option_map (λ (q : Seen State EntryPoint). q.state) (seen_as found) ≡ option_map (λ one. state_of one.now.state) found
-state_seen None = refl
-state_seen (Some one) = refl
-
--- what the state of a process answers that was looked up
-pub state_found : {A : Type 0} (f : State → A) (d : A) (tree : Tree) (processes : List Process) (i : ℕ) (found : Option (Bor Process))
-    → LooksUp processes i found
-    → by_state f d (option_map (λ one. state_of one.now.state) found) ≡ by_state f d (slice_get (states_of (world_of tree processes)) i)
-state_found f d tree processes i found there =
+-- what the state of a process answers that is there
+pub state_there : {A : Type 0} (f : State → A) (d : A) (tree : Tree) (processes : List Process) (i : ℕ) (one : Process)
+    → i < length processes → one ≡ get_or processes i one → f (state_of one.state) ≡ by_state f d (slice_get (states_of (world_of tree processes)) i)
+state_there f d tree processes i one within is =
     sym (ap (by_state f d) (slice_get-map (λ (q : Seen State EntryPoint). q.state) (map process_of processes) i
-    ∙ ap (option_map (λ (q : Seen State EntryPoint). q.state)) (process_at processes i found there)
-    ∙ state_seen found))
+    ∙ ap (option_map (λ (q : Seen State EntryPoint). q.state)) (there_at processes i one within is)))
+
+-- what is answered where there is none
+pub state_past : {A : Type 0} (f : State → A) (d : A) (tree : Tree) (processes : List Process) (i : ℕ)
+    → length processes ≤ i → d ≡ by_state f d (slice_get (states_of (world_of tree processes)) i)
+state_past f d tree processes i past =
+    sym (ap (by_state f d) (slice_get-map (λ (q : Seen State EntryPoint). q.state) (map process_of processes) i
+    ∙ ap (option_map (λ (q : Seen State EntryPoint). q.state)) (none_at processes i past)))
 
 -- a variable without a size has one word
 pub size_same : (size : Option ℕ) → unwrap_or size 1 ≡ size_of size

@@ -1,7 +1,8 @@
 -- Test lines, where they are passed and where not, in the world that the processes in memory stand for.
-use Rattle.std.proofs.Common.{◌≡◌, ◌+◌, ◌++◌, ◌<◌, ℕ, zero, suc, true, false, cond, List, [], ◌∷◌, length, map, take, drop, get_or, set, slice_get, Option, Some, None, option_map, Bor, refl, ap, sym, ◌∙◌, subst, arith}
+use Rattle.std.proofs.Common.{◌≡◌, ◌+◌, ◌++◌, ◌<◌, ◌≤◌, ◌&&◌, ℕ, zero, suc, Bool, true, false, cond, List, [], ◌∷◌, length, map, take, drop, get_or, set, slice_get, Option, Some, None, option_map, refl, ap, sym, ◌∙◌, subst, arith}
 use Rattle.std.specs.List.{list_all}
-use Rattle.std.proofs.lemmas.Option.{slice_get-map}
+use Rattle.std.proofs.lemmas.List.{drop_more}
+use Rattle.std.proofs.lemmas.Option.{slice_get-get_or, slice_get-map, slice_get_past}
 use Rattle.rb_base.specs.declared.names.Nested.{Nested}
 use Rattle.rb_base.specs.declared.names.Group.{Group}
 use Rattle.rb_base.specs.declared.event.Event.TheVariants.{Pass}
@@ -17,8 +18,6 @@ use Rattle.rb_meaning.specs.PlainRun.{EntryPoint}
 use Rattle.rb_levels.specs.declared.process.Process.{Process}
 use Rattle.rb_plain.specs.Members.{HasMembers}
 use Rattle.rb_levels.specs.Worlds.{process_of, unkept_kind, world_of}
-use Rattle.rb_plain.proofs.LentEnds.{LooksUp}
-use Rattle.rb_walk.proofs.Lookups.{looked_up}
 
 -- the members of a group that may not exist, in memory, and a list that may not exist
 abbrev pub members_in : Option Group → List ℕ
@@ -45,15 +44,34 @@ members_at groups plain c e =
     ∙ ap (λ lists. listed (slice_get lists c)) e
     ∙ ap listed (slice_get-map (λ group. group.members) plain c) ∙ in_tree (slice_get plain c)
 
--- all members of a conversation that was looked up stand at its test line
+module _ (f : ℕ → Bool) (members : List ℕ) (i : ℕ) (within : i < length members) where
+  -- the first of those that are left does not stand there
+  pub someone_missing : f (get_or members i 0) ≡ false → list_all f (drop i members) ≡ false
+  someone_missing e = ap (list_all f) (drop_more members i 0 within) ∙ ap (λ b. b && list_all f (drop (i + 1) members)) e
+
+  -- it stands there
+  pub one_stands : f (get_or members i 0) ≡ true → list_all f (drop i members) ≡ list_all f (drop (i + 1) members)
+  one_stands e = ap (list_all f) (drop_more members i 0 within) ∙ ap (λ b. b && list_all f (drop (i + 1) members)) e
+
+-- all members of a conversation that is there stand at its test line
 pub all_stand_is : (tree : Tree) (nested : Nested) (processes : List Process) (c : ℕ) → HasMembers tree nested
-    → (groups : List Group) (found : Option (Bor Group)) → groups ≡ nested.conversations.items → LooksUp groups c found
-    → list_all (λ m. stands_there c (slice_get (map process_of processes) m)) (members_in (option_map (λ group. group.now) found))
+    → (group : Group) → c < length nested.conversations.items → group ≡ get_or nested.conversations.items c group
+    → list_all (λ m. stands_there c (slice_get (map process_of processes) m)) group.members.items
     ≡ all_stand (unkept_kind tree) c (world_of tree processes)
-all_stand_is tree nested processes c has groups found same there =
-    ap (λ o. list_all (λ m. stands_there c (slice_get (map process_of processes) m)) (members_in o)) (looked_up groups c found there)
-    ∙ ap (λ gs. list_all (λ m. stands_there c (slice_get (map process_of processes) m)) (members_in (slice_get gs c))) same
-    ∙ ap (list_all (λ m. stands_there c (slice_get (map process_of processes) m))) (members_at nested.conversations.items (groups_of tree) c has)
+all_stand_is tree nested processes c has group within is =
+    let stand = λ (members : List ℕ). list_all (λ m. stands_there c (slice_get (map process_of processes) m)) members in
+    let groups = nested.conversations.items in
+    ap (λ o. stand (members_in o)) (ap (λ one. Some one) is ∙ sym (slice_get-get_or groups c group within))
+    ∙ ap stand (members_at groups (groups_of tree) c has)
+
+-- of a conversation that is not there nobody is missing
+pub none_missing : (tree : Tree) (nested : Nested) (processes : List Process) (c : ℕ) → HasMembers tree nested
+    → length nested.conversations.items ≤ c → true ≡ all_stand (unkept_kind tree) c (world_of tree processes)
+none_missing tree nested processes c has past =
+    let stand = λ (members : List ℕ). list_all (λ m. stands_there c (slice_get (map process_of processes) m)) members in
+    let groups = nested.conversations.items in
+    ap (λ o. stand (members_in o)) (sym (slice_get_past groups c past))
+    ∙ ap stand (members_at groups (groups_of tree) c has)
 
 -- conversations are at alternate 1 as at the opening, and stay so
 talks_stay : (groups : List Membership) (c : ℕ) → change_at c first_again (opening_talks groups) ≡ opening_talks groups

@@ -3,15 +3,24 @@ use Rattle.std.proofs.Common.{◌≡◌, Bool, true, false, cond, inl, inr, List
 use Rattle.std.proofs.lemmas.Option.{slice_get-map}
 use Rattle.rb_syntax.specs.Tree.{Tree}
 use Rattle.rb_base.specs.declared.kept.Kept.{Kept}
+use Rattle.rb_world.proofs.ListFacts.{some_same}
 use Rattle.rb_world.specs.Plain.{plain_acts, plain_moves, plain_runs}
 use Rattle.rb_meaning.specs.Step.{wants_first}
 use Rattle.rb_meaning.specs.PlainRun.{PlainWorld}
 use Rattle.rb_walk.specs.declared.halt.Halt.{Halt}
 use Rattle.rb_walk.specs.declared.items.First.{First}
+use Rattle.rb_walk.specs.Items.{IsFirst}
+use Rattle.rb_walk.specs.States.{state_of}
 use Rattle.rb_levels.specs.declared.process.Process.{Process}
 use Rattle.rb_levels.specs.Moves.{PlainProcess, IsReady}
 use Rattle.rb_plain.specs.Turns.{acted_world, IsFirstReady}
 use Rattle.rb_levels.specs.Worlds.{moved_world, process_of, status_of, unkept_kind, world_of, MovesTo}
+
+-- the process that is there is ready, and this stands first in it
+pub ready_first : (first : First) (o : Option Process) → IsFirstReady o (Some first) → (one : Process) → o ≡ Some one
+    → IsReady one × IsFirst (state_of one.state).items first
+ready_first first None ready one e = absurd ready
+ready_first first (Some there) ready one e = subst (λ (p : Process). IsReady p × IsFirst (state_of p.state).items first) (some_same e) ready
 
 module _ (tree : Tree) (kept : Kept) (processes : List Process) where
   -- the world after the turn, by the process that is there

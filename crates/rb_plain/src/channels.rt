@@ -22,9 +22,10 @@ pub(crate) fn has_room<'a>(
 ) -> bool
     ensures { result ≡ has_room (unkept_kind (tree program.now)) (world_of (tree program.now) processes.now) channel }
 {
-    let Some(declared) = program.channels.get(channel) else {
+    if channel >= program.channels.len() {
         return false;
-    };
+    }
+    let declared = &program.channels[channel];
     let sender = process_number(program, declared.sender.text);
     let receiver = process_number(program, declared.receiver.text);
     has_room_between(processes, sender, receiver, channel, declared.size)
@@ -70,7 +71,10 @@ pub(crate) fn message_there<'a>(
 ) -> Option<i64>
     ensures { result ≡ message_there (unkept_kind (tree program.now)) (world_of (tree program.now) processes.now) channel }
 {
-    let declared = program.channels.get(channel)?;
+    if channel >= program.channels.len() {
+        return None;
+    }
+    let declared = &program.channels[channel];
     let sender = process_number(program, declared.sender.text);
     let receiver = process_number(program, declared.receiver.text);
     message_between(processes, sender, receiver, channel)

@@ -67,7 +67,7 @@ fn lengths_of(alloc: Global, lists: &[Vec<i64>]) -> Result<Vec<usize>, Memory>
 {
     let mut lengths = Vec::with_capacity(alloc, lists.len())?;
     for values in lists {
-        lengths.push(values.len())?;
+        lengths.push_reserved(values.len());
     }
     Ok(lengths)
 }

@@ -33,7 +33,7 @@ pub(crate) fn opening<'t, 'a>(
 {
     let mut processes = Vec::with_capacity(alloc, program.processes.len())?;
     for (number, declared) in program.processes.iter().enumerate() {
-        processes.push(opened(alloc, program, number, declared)?)?;
+        processes.push_reserved(opened(alloc, program, number, declared)?);
     }
     Ok(processes)
 }

@@ -74,19 +74,26 @@ fn pass_line<'a>(
 fn do_all_stand(nested: &Nested, processes: &[Process<'_, '_>], conversation: usize) -> bool
     ensures { (tree : Tree) → HasMembers tree nested.now → result ≡ all_stand (unkept_kind tree) conversation (world_of tree processes.now) }
 {
-    match nested.conversations.get(conversation) {
-        Some(group) => do_stand(&group.members, processes, conversation),
-        None => true,
+    if conversation >= nested.conversations.len() {
+        return true;
     }
+    do_stand(
+        &nested.conversations[conversation].members,
+        processes,
+        conversation,
+    )
 }
 
 // Whether all these processes are there and stand at the test line of a conversation.
 fn do_stand(members: &[u32], processes: &[Process<'_, '_>], conversation: usize) -> bool
     ensures { result ≡ list_all (λ m. stands_there conversation (slice_get (map process_of processes.now) m)) members.now }
 {
-    members
-        .iter()
-        .all(|member| stands_there(processes, *member, conversation))
+    for member in members {
+        if !stands_there(processes, *member, conversation) {
+            return false;
+        }
+    }
+    true
 }
 
 // Whether a process is there and stands at the test line of a conversation.

@@ -105,7 +105,7 @@ fn values_of(
     let size = variable.size.unwrap_or(1) as usize;
     let mut values = Vec::with_capacity(alloc, size)?;
     for k in 0..size {
-        values.push(environment.word(variable.at as usize + k))?;
+        values.push_reserved(environment.word(variable.at as usize + k));
     }
     Ok(values)
 }
@@ -142,10 +142,11 @@ fn sent_by<'a>(
         ≡ by_state (λ s. length (sent_on s channel)) 0
         (slice_get (states_of (world_of (tree program.now) processes.now)) (process_number (tree program.now) name.now)) }
 {
-    match processes.get(process_number(program, name)) {
-        Some(process) => process.state.sent_on(channel),
-        None => 0,
+    let p = process_number(program, name);
+    if p >= processes.len() {
+        return 0;
     }
+    processes[p].state.sent_on(channel)
 }
 
 // How many values the process of this name has taken from a channel.
@@ -159,10 +160,11 @@ fn taken_by<'a>(
         ≡ by_state (λ s. taken_on s channel) 0
         (slice_get (states_of (world_of (tree program.now) processes.now)) (process_number (tree program.now) name.now)) }
 {
-    match processes.get(process_number(program, name)) {
-        Some(process) => process.state.taken_on(channel),
-        None => 0,
+    let p = process_number(program, name);
+    if p >= processes.len() {
+        return 0;
     }
+    processes[p].state.taken_on(channel)
 }
 
 // The line of a channel.

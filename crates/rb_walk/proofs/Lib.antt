@@ -12,3 +12,4 @@ pub mod Lines
 pub mod Traps
 pub mod Starting
 pub mod Skipped
+pub mod Arguments

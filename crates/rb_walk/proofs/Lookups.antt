@@ -1,8 +1,8 @@
 -- What is looked up in a vector of the tree, as the definitions over the plain tree look it up.
-use Rattle.std.proofs.Common.{◌≡◌, ◌-◌, ◌<◌, ◌≤◌, ℕ, zero, suc, Bool, true, false, cond, List, [], ◌∷◌, length, map, Option, Some, None, option_map, Bor, refl, sym, ap, ◌∙◌, arith}
+use Rattle.std.proofs.Common.{◌≡◌, ◌-◌, ◌<◌, ◌≤◌, ℕ, zero, suc, Bool, true, false, cond, List, [], ◌∷◌, length, map, get_or, Option, Some, None, option_map, Bor, refl, sym, ap, ◌∙◌, arith}
 use Rattle.std.specs.Option.{MatchOption}
 use Rattle.std.specs.List.{HoldsAt, slice_get, find}
-use Rattle.std.proofs.lemmas.Option.{slice_get-map, slice_get_past, slice_get_read}
+use Rattle.std.proofs.lemmas.Option.{slice_get-get_or, slice_get-map, slice_get_past, slice_get_read}
 use Rattle.rb_syntax.specs.declared.statement.Block.{Block}
 use Rattle.rb_syntax.specs.declared.statement.Recovery.{Recovery, out-Recovery}
 use Rattle.rb_syntax.specs.declared.program.Procedure.{Procedure}
@@ -70,16 +70,24 @@ procedure_found x (procedure ∷ procedures) =
     (find (λ one. same_name one.name.text.now x) procedures) (procedure_among x (map procedure_declaration procedures)) (procedure_found x procedures)
 
 -- the procedure that is lent, of a process that is there
-pub procedure_there : (program : Program) (k : ℕ) (x : List ℕ) (xs : List Process) (process : Process)
-    (procedures : List Procedure) (r : Option (Bor Procedure))
-    → xs ≡ program.processes.items → slice_get xs k ≡ Some process → procedures ≡ process.procedures.items
+pub procedure_there : (program : Program) (k : ℕ) (x : List ℕ) (process : Process) → k < length program.processes.items
+    → process ≡ get_or program.processes.items k process
+    → (procedures : List Procedure) (r : Option (Bor Procedure)) → procedures ≡ process.procedures.items
     → option_map (λ procedure. procedure.now) r ≡ find (λ one. same_name one.name.text.now x) procedures
     → option_map (λ procedure. procedure_declaration procedure.now) r ≡ procedure_named (tree program) k x
-procedure_there program k x xs process procedures r processes there own found =
+procedure_there program k x process within is procedures r own found =
+    let there = slice_get-get_or program.processes.items k process within ∙ ap (λ one. Some one) (sym is) in
     sym (viewed (λ procedure. procedure.now) procedure_declaration r) ∙ ap (option_map procedure_declaration) found ∙ procedure_found x procedures
     ∙ ap (λ ps. procedure_among x (map procedure_declaration ps)) own
-    ∙ ap (λ one. procedure_among x (procedures_of one)) (sym (slice_get-map process_declaration xs k ∙ ap (option_map process_declaration) there))
-    ∙ ap (λ ys. procedure_among x (procedures_of (slice_get (map process_declaration ys) k))) processes
+    ∙ ap (λ one. procedure_among x (procedures_of one))
+    (sym (slice_get-map process_declaration program.processes.items k ∙ ap (option_map process_declaration) there))
+
+-- and of one that is not there
+pub procedure_missing : (program : Program) (k : ℕ) (x : List ℕ) → length program.processes.items ≤ k → None ≡ procedure_named (tree program) k x
+procedure_missing program k x past =
+    ap (λ one. procedure_among x (procedures_of one))
+    (sym (slice_get-map process_declaration program.processes.items k
+    ∙ ap (option_map process_declaration) (slice_get_past program.processes.items k past)))
 
 -- the acceptance test of a recovery block
 pub test_of : (block : Recovery) → expression (out-Recovery block).test ≡ test_in (recovery_block block)

@@ -1,7 +1,8 @@
 -- What the place of a variable says of its frame.
-use Rattle.std.proofs.Common.{◌≡◌, ◌+◌, ◌<◌, ◌≤◌, ℕ, ℤ, suc, Bool, true, false, not, ◌||◌, cond, List, [], ◌∷◌, length, get_or, slice_set, nat_lt, Some, None, refl, sym, ap, subst, true≢false, arith}
-use Rattle.std.specs.List.{position, position_or_len}
+use Rattle.std.proofs.Common.{◌≡◌, ◌+◌, ◌<◌, ◌≤◌, ℕ, ℤ, suc, Bool, true, false, not, ◌||◌, cond, List, [], ◌∷◌, length, drop, get_or, slice_set, nat_lt, Some, None, refl, sym, ap, ◌∙◌, subst, true≢false, arith}
+use Rattle.std.specs.List.{position, position_from, position_or_len}
 use Rattle.std.proofs.lemmas.Bool.Decides.{nat_tests}
+use Rattle.std.proofs.lemmas.List.{drop_more}
 use Rattle.rb_meaning.specs.Environment.{Stored, Frame, same_name, has, stored_in}
 use Rattle.rb_walk.specs.declared.frames.Slot.{Slot}
 use Rattle.rb_walk.specs.Slots.{stored, frame, changed}
@@ -9,6 +10,22 @@ use Rattle.rb_walk.specs.Slots.{stored, frame, changed}
 -- whether a variable in memory has this name
 abbrev pub is_named : List ℕ → Slot → Bool
 is_named x slot = same_name slot.name.now x
+
+module _ (x : List ℕ) (slots : List Slot) (k : ℕ) (slot : Slot) (within : k < length slots) (is : slot ≡ get_or slots k slot) where
+  -- the first variable of those that are left, and those behind it
+  next_place : (here : Bool) → is_named x slot ≡ here
+      → position_from (is_named x) k (drop k slots) ≡ cond here (Some k) (position_from (is_named x) (k + 1) (drop (k + 1) slots))
+  next_place here e =
+      ap (position_from (is_named x) k) (drop_more slots k slot within ∙ ap (λ one. one ∷ drop (k + 1) slots) (sym is))
+      ∙ ap (λ b. cond b (Some k) (position_from (is_named x) (k + 1) (drop (k + 1) slots))) e
+
+  -- it has the name
+  pub place_here : is_named x slot ≡ true → position_from (is_named x) k (drop k slots) ≡ Some k
+  place_here e = next_place true e
+
+  -- it has another
+  pub place_later : is_named x slot ≡ false → position_from (is_named x) k (drop k slots) ≡ position_from (is_named x) (k + 1) (drop (k + 1) slots)
+  place_later e = next_place false e
 
 -- one step of the next lemma: the first variable has the name, or a later one
 set-step : (i : ℕ) (v : ℤ) (slot : Slot) (slots : List Slot) (k m : ℕ) (d new : Slot) (rest : Frame) (b : Bool)

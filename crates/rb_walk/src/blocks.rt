@@ -206,7 +206,7 @@ fn values_of(
 {
     let mut values = Vec::with_capacity(alloc, arguments.len())?;
     for argument in arguments {
-        values.push(present(environment, argument)?)?;
+        values.push_reserved(present(environment, argument)?);
     }
     Ok(values)
 }
@@ -219,8 +219,10 @@ fn procedure_named<'t, 'a>(
 ) -> Option<&'t Procedure<'a>>
     ensures { option_map (λ procedure. procedure_declaration procedure.now) result ≡ procedure_named (tree program.now) process name.now }
 {
-    let process = program.processes.get(process)?;
-    procedure_among(&process.procedures, name)
+    if process >= program.processes.len() {
+        return None;
+    }
+    procedure_among(&program.processes[process].procedures, name)
 }
 
 // The first of these procedures with this name.
@@ -230,9 +232,14 @@ fn procedure_among<'t, 'a>(
 ) -> Option<&'t Procedure<'a>>
     ensures { option_map (λ procedure. procedure.now) result ≡ find (λ procedure. same_name procedure.name.text.now name.now) procedures.now }
 {
-    procedures
-        .iter()
-        .find(|procedure| procedure.name.text == name)
+    let mut rest = procedures;
+    while let [procedure, others @ ..] = rest {
+        if procedure.name.text == name {
+            return Some(procedure);
+        }
+        rest = others;
+    }
+    None
 }
 
 // The block of an alternate by its number, counted from 1.

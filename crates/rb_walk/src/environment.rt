@@ -208,7 +208,12 @@ fn find<'s>(mut slots: &'s [Slot<'_>], name: &[u8]) -> Option<&'s [i64]>
 fn place_of(slots: &[Slot<'_>], name: &[u8]) -> Option<usize>
     ensures { result ≡ position (λ slot. same_name slot.name.now name.now) slots.now }
 {
-    slots.iter().position(|slot| slot.name == name)
+    for (place, slot) in slots.iter().enumerate() {
+        if slot.name == name {
+            return Some(place);
+        }
+    }
+    None
 }
 
 /// Replaces a number of the first variable with this name, if it is there, and tells whether it is.

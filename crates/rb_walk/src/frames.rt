@@ -107,8 +107,9 @@ fn push_zeros<'a>(
 ) -> Result<(), Memory>
     ensures { OnOk result (frame slots.new.items ≡ frame slots.old.items ++ frame_of (map declaration variables.now)) }
 {
+    slots.reserve(variables.len())?;
     for variable in variables {
-        slots.push(Slot::new(alloc, variable)?)?;
+        slots.push_reserved(Slot::new(alloc, variable)?);
     }
     Ok(())
 }
@@ -117,7 +118,7 @@ fn push_zeros<'a>(
 pub fn frame<'a>(alloc: Global, variables: &[Var<'a>]) -> Result<Vec<Slot<'a>>, Memory>
     ensures { IfOk result (λ slots. frame slots.items ≡ frame_of (map declaration variables.now)) }
 {
-    let mut slots = Vec::with_capacity(alloc, variables.len())?;
+    let mut slots = Vec::new(alloc);
     push_zeros(&mut slots, alloc, variables)?;
     Ok(slots)
 }
@@ -132,7 +133,7 @@ fn bound<'a>(
 {
     let mut slots = Vec::with_capacity(alloc, parameters.len())?;
     for (place, parameter) in parameters.iter().enumerate() {
-        slots.push(Slot::bound(alloc, parameter, number_at(values, place))?)?;
+        slots.push_reserved(Slot::bound(alloc, parameter, number_at(values, place))?);
     }
     Ok(slots)
 }
@@ -158,7 +159,7 @@ pub fn copied_frame<'a>(alloc: Global, slots: &[Slot<'a>]) -> Result<Vec<Slot<'a
 {
     let mut copies = Vec::with_capacity(alloc, slots.len())?;
     for slot in slots {
-        copies.push(slot.copied(alloc)?)?;
+        copies.push_reserved(slot.copied(alloc)?);
     }
     Ok(copies)
 }
@@ -169,7 +170,7 @@ fn copied_call<'a>(alloc: Global, call: &Call<'a>) -> Result<Call<'a>, Memory>
 {
     let mut frames = Vec::with_capacity(alloc, call.frames.len())?;
     for slots in &call.frames {
-        frames.push(copied_frame(alloc, slots)?)?;
+        frames.push_reserved(copied_frame(alloc, slots)?);
     }
     Ok(Call { frames })
 }
@@ -180,7 +181,7 @@ pub fn copied_calls<'a>(alloc: Global, calls: &[Call<'a>]) -> Result<Vec<Call<'a
 {
     let mut copies = Vec::with_capacity(alloc, calls.len())?;
     for call in calls {
-        copies.push(copied_call(alloc, call)?)?;
+        copies.push_reserved(copied_call(alloc, call)?);
     }
     Ok(copies)
 }

@@ -14,7 +14,11 @@ pub fn room_of_frame(slots: &[Slot<'_>], most: usize) -> Option<usize>
 {
     let mut left = most;
     for slot in slots {
-        left = left.checked_sub(slot.values.len())?;
+        let words = slot.values.len();
+        if words > left {
+            return None;
+        }
+        left -= words;
     }
     Some(left)
 }
@@ -47,7 +51,11 @@ pub fn room_of_declared(variables: &[Var<'_>], most: usize) -> Option<usize>
 {
     let mut left = most;
     for variable in variables {
-        left = left.checked_sub(size_of(variable))?;
+        let words = size_of(variable);
+        if words > left {
+            return None;
+        }
+        left -= words;
     }
     Some(left)
 }

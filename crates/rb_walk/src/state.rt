@@ -149,7 +149,7 @@ fn nothing_sent(alloc: Global, channels: usize) -> Result<Vec<Vec<i64>>, Memory>
 {
     let mut sent = Vec::with_capacity(alloc, channels)?;
     for _ in 0..channels {
-        sent.push(Vec::new(alloc))?;
+        sent.push_reserved(Vec::new(alloc));
     }
     Ok(sent)
 }

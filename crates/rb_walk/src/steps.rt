@@ -133,7 +133,8 @@ fn put_blank(line: &mut Vec<u8>, first: bool) -> Result<(), Halt>
     if first {
         return Ok(());
     }
-    line.push(b' ').map_err(|_| Halt::Memory)
+    line.push(b' ')?;
+    Ok(())
 }
 
 // An item's bytes: its text, or its value in decimal.
@@ -157,5 +158,6 @@ fn put_item(
 fn put(line: &mut Vec<u8>, bytes: &[u8]) -> Result<(), Halt>
     ensures { AddsTo line.old.items bytes.now line.new.items result }
 {
-    line.extend_from_slice(bytes).map_err(|_| Halt::Memory)
+    line.extend_from_slice(bytes)?;
+    Ok(())
 }

@@ -15,6 +15,15 @@ loop-number-preserved c =
     let same = c.deref-declared-items.ensures.value in
     let is : one ≡ get_or declared i one = c.declared-item.is ∙ ap (λ (xs : List Declaration). get_or xs i one) same in
     let within : i < length declared = omega (arith, c.loop-number-test.true, ap length same) in
-    ap (λ (made : List Process). map process_of made ++ opened_from program (i + 1) declared) c.in_ok-push.ensures.items
-    ∙ opened_more program declared i one c.loop-number.processes.items c.in_ok-opened.field-0
-    (opened_from program 0 declared) within is c.in_ok-opened.ensures c.loop-number.invariant
+    record {
+      same = ap (λ (made : List Process). map process_of made ++ opened_from program (i + 1) declared) c.push_reserved.ensures.items
+          ∙ opened_more program declared i one c.loop-number.processes.items c.in_ok-opened.field-0
+          (opened_from program 0 declared) within is c.in_ok-opened.ensures c.loop-number.invariant.same;
+      many = omega arith;
+      room = omega arith;
+    }
+
+pub push_reserved-requires : goal.push_reserved-requires
+push_reserved-requires c =
+    let declared = c.args.program.now.processes in
+    omega (arith, c.loop-number-test.true, ap length c.deref-declared-items.ensures.value, declared.ok.0)

@@ -1,9 +1,24 @@
 -- The process that stands at the number, and what its level comes to.
-use Rattle.std.proofs.Common.{Some, get_or, ap, sym, ◌∙◌}
+use Rattle.std.proofs.Common.{◌≡◌, None, Some, get_or, map, ap, sym, ◌∙◌, subst}
 use Rattle.std.proofs.lemmas.Option.{get_or_from_slice_get}
 use Rattle.rb_syntax.specs.Plain.{tree}
-use Rattle.rb_plain.proofs.AcceptedTests.{alone_gone, together_gone}
+use Rattle.rb_world.specs.World.{last_of}
+use Rattle.rb_walk.specs.States.{state_of}
+use Rattle.rb_levels.specs.declared.process.Process.{Process}
+use Rattle.rb_levels.specs.Moves.{skipped}
+use Rattle.rb_levels.specs.Worlds.{level_of, world_of}
+use Rattle.rb_plain.proofs.AcceptedTests.{alone_gone, conversation_at, no_level, together_gone}
 use Rattle.rb_plain.proofs.test_line.accept.Goals as goal
+
+pub returns-in-None : goal.returns-in-None
+returns-in-None c = λ one there.
+    let plain = tree c.args.program.now in
+    let processes = c.args.processes.now in
+    let levels = map level_of one.levels.items in
+    let found = get_or_from_slice_get processes c.args.p one c.index-processes-p.result there in
+    no_level plain c.args.p levels (world_of plain processes) (skipped (state_of one.state)) (last_of levels)
+    (subst (λ (x : Process). conversation_at (last_of (map level_of x.levels.items)) ≡ None) found
+    (sym c.conversation_of.ensures ∙ c.in-None.is))
 
 pub returns-in-Some-None : goal.returns-in-Some-None
 returns-in-Some-None c = λ one there.

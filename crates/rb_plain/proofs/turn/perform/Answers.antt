@@ -4,7 +4,7 @@ use Rattle.std.proofs.lemmas.Option.{slice_get-get_or}
 use Rattle.rb_syntax.specs.Plain.{command, recovery_block, tree}
 use Rattle.rb_levels.specs.Moves.{entered_by, performed_by}
 use Rattle.rb_levels.specs.Worlds.{process_of, world_of}
-use Rattle.rb_plain.proofs.ActedWorlds.{acts, enters, may_receive, receives, sends}
+use Rattle.rb_plain.proofs.ActedWorlds.{acts, enters, may_receive, receives, receives_not, sends, sends_not}
 use Rattle.rb_plain.proofs.MovedProcesses.{moved_there}
 use Rattle.rb_plain.proofs.turn.perform.Goals as goal
 
@@ -88,3 +88,16 @@ returns-else-is_none c = λ one there.
     (c.requires.first one there).1 c.in-Message.channel c.message_there-message.result c.in-Message.ensures c.message_there-message.ensures
     (c.is_none.ensures ∙ ap not c.if-is_none.false))
     c.perform-in-Message.ensures
+
+pub returns-else-has_room : goal.returns-else-has_room
+returns-else-has_room c = λ one there.
+    let plain = tree c.args.program.now in
+    sends_not plain c.args.kept (process_of one) (world_of plain c.args.processes.now) c.requires.alternate (command c.args.statement.now)
+    (c.requires.first one there).1 c.in-Room.channel c.in-Room.ensures (sym c.has_room.ensures ∙ c.if-has_room.false)
+
+pub returns-then-is_none : goal.returns-then-is_none
+returns-then-is_none c = λ one there.
+    let plain = tree c.args.program.now in
+    receives_not plain c.args.kept (process_of one) (world_of plain c.args.processes.now) c.requires.alternate (command c.args.statement.now)
+    (c.requires.first one there).1 c.in-Message.channel c.message_there-message.result c.in-Message.ensures c.message_there-message.ensures
+    (c.is_none.ensures ∙ ap not c.if-is_none.true)

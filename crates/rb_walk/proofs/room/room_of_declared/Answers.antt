@@ -1,21 +1,21 @@
-use Rattle.std.proofs.Common.{◌<◌, get_or, length, map, ◌∙◌, arith}
+use Rattle.std.proofs.Common.{◌<◌, ◌≤◌, get_or, length, map, refl, ◌∙◌, arith}
 use Rattle.std.proofs.lemmas.List.{length-map}
 use Rattle.rb_syntax.specs.Plain.{declaration}
 use Rattle.rb_meaning.specs.Environment.{Stored, zeros}
 use Rattle.rb_walk.proofs.Words.{part_more, part_none, declared_at, declared_words}
 use Rattle.rb_walk.proofs.room.room_of_declared.Goals as goal
 
-pub returns-in_err-left : goal.returns-in_err-left
-returns-in_err-left c =
+pub returns-then-words-left : goal.returns-then-words-left
+returns-then-words-left c =
     let variables = c.args.variables.now in
     let k = c.loop-variable.variable-index in
     let here : k < length (map declaration variables) = omega (arith, length-map variables declaration) in
-    c.from_residual.ensures
-    ∙ part_none zeros (λ (s : Stored). length s.values)
-    (map declaration variables) k c.loop-variable.left c.size_of.result _ here
+    let short : c.size_of-words.result ≤ c.loop-variable.left → ⊥ = λ h. omega (arith, h, c.if-words-left.true) in
+    part_none zeros (λ (s : Stored). length s.values)
+    (map declaration variables) k c.loop-variable.left c.size_of-words.result _ here
     (declared_at variables k _ c.loop-variable-test.true)
-    (declared_words (get_or variables k _) c.size_of.result c.size_of.ensures)
-    c.in_err-left.ensures
+    (declared_words (get_or variables k _) c.size_of-words.result c.size_of-words.ensures)
+    short
     ∙ c.loop-variable.invariant
 
 pub loop-variable-preserved : goal.loop-variable-preserved
@@ -24,8 +24,8 @@ loop-variable-preserved c =
     let k = c.loop-variable.variable-index in
     let here : k < length (map declaration variables) = omega (arith, length-map variables declaration) in
     part_more zeros (λ (s : Stored). length s.values)
-    (map declaration variables) k c.loop-variable.left c.size_of.result _ here
+    (map declaration variables) k c.loop-variable.left c.size_of-words.result _ here
     (declared_at variables k _ c.loop-variable-test.true)
-    (declared_words (get_or variables k _) c.size_of.result c.size_of.ensures)
-    c.in_ok-left.left c.in_ok-left.ensures
+    (declared_words (get_or variables k _) c.size_of-words.result c.size_of-words.ensures)
+    _ (c.if-words-left.false, refl)
     ∙ c.loop-variable.invariant

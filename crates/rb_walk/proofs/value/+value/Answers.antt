@@ -1,8 +1,10 @@
 use Rattle.std.proofs.Common.{◌+ℤ◌, pos, ℤ, sym, ◌∙◌, ap, Ok, Err, w64, rules, to_z, ◌-◌, ◌+◌}
 use Rattle.std.proofs.lemmas.Result.{err_from_is_err_and}
 use Rattle.std.proofs.lemmas.Int.{to_z-of_z}
-use Rattle.rb_meaning.specs.Value.{Outcome, fitting, sum_from}
-use Rattle.rb_walk.specs.Counters.{body_values}
+use Rattle.rb_syntax.specs.Plain.{expression as plain}
+use Rattle.rb_syntax.proofs.Bridge.{expression_prior, expression_quantified, expression_value}
+use Rattle.rb_meaning.specs.Value.{Outcome, fitting, sum_from, value}
+use Rattle.rb_walk.specs.Counters.{body_values, counted}
 use Rattle.rb_walk.proofs.Spans.{every_trap, every_stop, every_on, some_trap, some_stop, some_on, sum_trap, sum_on, is_zero_bits, not_zero_bits}
 use Rattle.rb_walk.proofs.value.+value.Goals as goal
 
@@ -83,3 +85,21 @@ sum_from-loop-step-preserved t c =
     ∙ sym (sum_on c.args.numbers.count c.loop-step.step c.args.numbers.first f total c.in_ok-value.value
     (Ok c.in_ok-total.total) c.loop-step-test.true (sym c.in_ok-value.ensures) added)
     ∙ c.loop-step.invariant
+
+pub value_of-returns-in-Value : goal.value_of-returns-in-Value
+value_of-returns-in-Value t c =
+    let at = value c.args.environment.now c.args.prior.now (counted c.args.counters.now) in
+    c.read.ensures ∙ sym (ap (λ e. at (plain e)) c.in-Value.is ∙ ap at (expression_value c.in-Value.target))
+
+pub value_of-returns-in-Prior : goal.value_of-returns-in-Prior
+value_of-returns-in-Prior t c =
+    let at = value c.args.environment.now c.args.prior.now (counted c.args.counters.now) in
+    c.read-in-Prior.ensures ∙ sym (ap (λ e. at (plain e)) c.in-Prior.is ∙ ap at (expression_prior c.in-Prior.field-0 c.in-Prior.target))
+
+pub value_of-returns-in-Quantified : goal.value_of-returns-in-Quantified
+value_of-returns-in-Quantified t c =
+    let at = value c.args.environment.now c.args.prior.now (counted c.args.counters.now) in
+    let over = c.in-Quantified.quantified in
+    c.over_span.ensures
+    ∙ sym (ap (λ e. at (plain e)) c.in-Quantified.is
+    ∙ ap at (expression_quantified over.kind over.place over.name over.low over.high over.body))
