@@ -5,3 +5,4 @@ pub mod FirstAnswers
 pub mod Parents
 pub mod Faults
 pub mod Members
+pub mod Channels

@@ -68,7 +68,14 @@ impl Rules<'_, '_, '_> {
     fn are_members(&self, members: &[usize], around: usize) -> bool
         ensures { result ≡ list_all (λ m. is_member m (members_in (tree self.now.uses.now.program.now) around)) members.now }
     {
-        members.iter().all(|member| self.is_member(*member, around))
+        let mut rest = members;
+        'members: while let [member, after @ ..] = rest {
+            if !self.is_member(*member, around) {
+                return false;
+            }
+            rest = after;
+        }
+        true
     }
 
     /// Whether this is the conversation right around another, or neither is there.
@@ -177,12 +184,8 @@ impl Rules<'_, '_, '_> {
                 joins.push(*one)?;
                 Ok(())
             }
-            Deed::Sends => {
-                self.note_message(Deed::Sends, one, first);
-                Ok(())
-            }
-            Deed::Receives => {
-                self.note_message(Deed::Receives, one, first);
+            Deed::Sends | Deed::Receives => {
+                self.note_message(one.deed, one, first);
                 Ok(())
             }
         }
