@@ -6,3 +6,4 @@ pub mod Parents
 pub mod Faults
 pub mod Members
 pub mod Channels
+pub mod Noted

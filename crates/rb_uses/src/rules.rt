@@ -129,7 +129,6 @@ impl Rules<'_, '_, '_> {
     }
 
     /// Notes the rules that a `converse` with so many alternates breaks.
-    #[tactic(auto, using(crate::proofs::After::after_append))]
     fn note_join(
         &self,
         again: bool,
@@ -154,7 +153,6 @@ impl Rules<'_, '_, '_> {
     }
 
     /// Notes the rules that a message breaks.
-    #[tactic(auto, using(crate::proofs::After::after_append))]
     fn note_message(&self, deed: Deed, one: &Use<'_>, first: &mut Option<SourceFault>)
         ensures { first.new ≡ first_after first.old (message_faults (tree self.now.uses.now.program.now) (deed_of deed) (held one.now)) }
     {
