@@ -7,3 +7,4 @@ pub mod Faults
 pub mod Members
 pub mod Channels
 pub mod Noted
+pub mod ProcessUses
