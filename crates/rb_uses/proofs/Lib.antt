@@ -8,3 +8,4 @@ pub mod Members
 pub mod Channels
 pub mod Noted
 pub mod ProcessUses
+pub mod FromBehind
