@@ -19,7 +19,7 @@ returns c =
     let others = members_faults whole one.name.text.now [] names in
     let noted = c.note.new.first in
     let last = c.note_members.new.first in
-    let count : c.len-few.result ≡ length names = cc (length-map one.members.items identifier, ap length c.deref.ensures.value) in
+    let count : c.len-few.result ≡ length names = cc (length-map one.members.items identifier) in
     let declared : noted ≡ first_after first few =
     c.note.ensures ∙ ap (λ n. first_after first (where_broken (nat_lt n 2) N11 place)) count
     in
