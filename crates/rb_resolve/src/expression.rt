@@ -9,8 +9,9 @@ ghost use Rattle.rb_scope.specs.Memory.{held};
 ghost use Rattle.rb_resolve.specs.Memory.{quantified_sites, spot_of};
 
 use crate::rules::sum;
-use crate::sites::{declares, looks_back, quantifies, uses};
+use crate::sites::{looks_back, quantifies, uses};
 use crate::spot::Spot;
+use crate::variables::scope_of;
 use rb_base::Memory;
 use rb_scope::{Declared, Finder, Scope, Scopes, Slot, Want};
 use rb_syntax::{Expr, Link, Quantified, Target};
@@ -94,9 +95,7 @@ fn counter_scope<'a>(
 {
     let mut declared = Vec::new(alloc);
     declared.push(one)?;
-    let scope = Scope::new(alloc, declared)?;
-    declares(finder, &scope, 0);
-    Ok(scope)
+    scope_of(alloc, declared, finder)
 }
 
 /// Visits the sites of a quantified expression.

@@ -83,7 +83,7 @@ fn size_of(size: Option<Number>) -> Result<u32, Memory>
     match size {
         None => Ok(1),
         Some(number) if number.value < 0 => Ok(0),
-        Some(number) => u32::try_from(number.value).map_err(|_| Memory),
+        Some(number) => u32::try_from(number.value).ok().ok_or(Memory),
     }
 }
 

@@ -42,10 +42,7 @@ fn visit_printed<'a>(
 {
     match what {
         ItemKind::Text(_) => Ok(()),
-        ItemKind::Value(value) => {
-            visit_expression(alloc, value, spot, finder)?;
-            Ok(())
-        }
+        ItemKind::Value(value) => visit_expression(alloc, value, spot, finder),
     }
 }
 
@@ -77,8 +74,7 @@ pub(crate) fn visit_assignment<'a>(
     ensures { OnOk result (finder.new ≡ visited finder.old (command_sites (spot_of spot.now) (Assignment (reference target.now) (plain value.now)))) }
 {
     visit_reference(alloc, target, Want::AScalar, spot, finder)?;
-    visit_expression(alloc, value, spot, finder)?;
-    Ok(())
+    visit_expression(alloc, value, spot, finder)
 }
 
 /// Visits the sites of a `print`.
@@ -92,8 +88,7 @@ pub(crate) fn visit_printing<'a>(
     ensures { OnOk result (finder.new ≡ visited finder.old (command_sites (spot_of spot.now) (Printing (map print_item items.now)))) }
 {
     count_items(items, finder);
-    visit_items(alloc, items, spot, finder)?;
-    Ok(())
+    visit_items(alloc, items, spot, finder)
 }
 
 /// Visits the sites of a `send`.
@@ -109,8 +104,7 @@ pub(crate) fn visit_sending<'a>(
         (finder.new ≡ visited finder.old (command_sites (spot_of spot.now) (Sending (identifier channel.entry) (plain value.now)))) }
 {
     uses(finder, Want::AChannel, channel, spot.scopes);
-    visit_expression(alloc, value, spot, finder)?;
-    Ok(())
+    visit_expression(alloc, value, spot, finder)
 }
 
 /// Visits the channel of a receipt, and the place in which it stores.
@@ -128,8 +122,7 @@ pub(crate) fn visit_receipt<'a>(
         ∷ reference_sites (spot_of spot.now) Want.AScalar (reference target.now))) }
 {
     uses(finder, Want::AChannel, channel, spot.scopes);
-    visit_reference(alloc, target, Want::AScalar, spot, finder)?;
-    Ok(())
+    visit_reference(alloc, target, Want::AScalar, spot, finder)
 }
 
 /// Visits the sites of a call.
@@ -147,6 +140,5 @@ pub(crate) fn visit_call<'a>(
 {
     uses(finder, Want::AProcedure, procedure, spot.scopes);
     calls(finder, procedure, arguments.len(), spot.scopes);
-    visit_arguments(alloc, arguments, spot, finder)?;
-    Ok(())
+    visit_arguments(alloc, arguments, spot, finder)
 }

@@ -57,7 +57,7 @@ pub(crate) fn sum(first: u32, second: u32) -> Result<u32, Memory>
 pub(crate) fn count(entries: usize) -> Result<u32, Memory>
     ensures { IfOk result (λ total. total ≡ entries) }
 {
-    u32::try_from(entries).map_err(|_| Memory)
+    u32::try_from(entries).ok().ok_or(Memory)
 }
 
 /// How many words these variables take.

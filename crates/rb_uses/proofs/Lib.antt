@@ -5,3 +5,7 @@ pub mod FirstAnswers
 pub mod Parents
 pub mod Faults
 pub mod Members
+pub mod Channels
+pub mod Noted
+pub mod ProcessUses
+pub mod FromBehind

@@ -5,7 +5,7 @@ use Rattle.std.proofs.Math.Bool.{or_assoc}
 use Rattle.std.proofs.lemmas.Bool.Decides.{nat_tests}
 use Rattle.std.proofs.lemmas.List.Folds.{list_any-append}
 use Rattle.std.proofs.lemmas.Option.{slice_get-map, slice_get_past, slice_get_read}
-use Rattle.std.specs.List.{list_all}
+use Rattle.std.specs.List.{list_all, list_any}
 use Rattle.std.specs.Option.{is_some, option_eq}
 use Rattle.rb_syntax.specs.Tree.{ConversationDeclaration, Tree}
 use Rattle.rb_world.specs.Reject.{parent_of}
@@ -77,6 +77,18 @@ same-bool : (a b : Bool) → (a ≡ true → b ≡ true) → (b ≡ true → a �
 same-bool true b f g = sym (f refl)
 same-bool false true f g = g refl
 same-bool false false f g = refl
+
+flipped : (p q : ℕ) → nat_eq q p ≡ nat_eq p q
+flipped p q =
+    same-bool (nat_eq q p) (nat_eq p q)
+    (λ e. ap (nat_eq p) (same-number q p e) ∙ self p)
+    (λ e. ap (nat_eq q) (same-number p q e) ∙ self q)
+
+-- a member among others, whichever of the two is asked first
+pub either_first : (p : ℕ) (ms : List ℕ) → list_any (λ m. nat_eq m p) ms ≡ is_member p ms
+either_first p [] = refl
+either_first p (m ∷ ms) =
+    ap (λ b. b || list_any (λ n. nat_eq n p) ms) (flipped p m) ∙ ap (λ b. nat_eq p m || b) (either_first p ms)
 
 -- two lists with the same members pass a test alike
 pub all_alike : (test : ℕ → Bool) (ms ns : List ℕ) → ((p : ℕ) → is_member p ms ≡ is_member p ns) → list_all test ms ≡ list_all test ns

@@ -54,10 +54,13 @@ fn facts_of(
 ) -> Result<Facts, Memory>
     ensures { IfOk result (λ facts. known facts ≡ known_of (tree uses.now.program.now) number (conversation_declaration conversation.now)) }
 {
+    let parent = uses.parent(conversation.name.text);
+    let alternates = uses.alternates(number);
+    let members = members_once(alloc, uses.program, &conversation.members)?;
     Ok(Facts {
-        members: members_once(alloc, uses.program, &conversation.members)?,
-        parent: uses.parent(conversation.name.text),
-        alternates: uses.alternates(number),
+        members,
+        parent,
+        alternates,
     })
 }
 
@@ -86,7 +89,7 @@ fn members_once(
 pub(crate) fn is_member(process: usize, members: &[usize]) -> bool
     ensures { result ≡ is_member process members.now }
 {
-    members.iter().any(|member| process == *member)
+    members.contains(&process)
 }
 
 /// Notes the faults of the declaration of a conversation.
@@ -139,5 +142,12 @@ fn is_named(names: &[Name<'_>], text: &[u8]) -> bool
     ensures { result ≡ list_any (λ name. same_name name.text.now text.now) (reverse names.now) }
 {
     // The last one is found at once, however many there are.
-    names.iter().rev().any(|name| name.text == text)
+    let mut rest = names;
+    'names: while let [before @ .., name] = rest {
+        if name.text == text {
+            return true;
+        }
+        rest = before;
+    }
+    false
 }

@@ -44,7 +44,14 @@ pub(crate) fn is_joined_before(joins: &[Use<'_>], one: &Use<'_>) -> bool
     ensures { result ≡ list_any (λ other. joins_like (held one.now) (held other)) (reverse joins.now) }
 {
     // The last one of a process is found at once, however many there are.
-    joins.iter().rev().any(|other| one.joins_like(other))
+    let mut rest = joins;
+    'joins: while let [before @ .., other] = rest {
+        if one.joins_like(other) {
+            return true;
+        }
+        rest = before;
+    }
+    false
 }
 
 /// The innermost conversation around the first `converse` for the conversation of this name.

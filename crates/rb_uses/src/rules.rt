@@ -68,7 +68,14 @@ impl Rules<'_, '_, '_> {
     fn are_members(&self, members: &[usize], around: usize) -> bool
         ensures { result ≡ list_all (λ m. is_member m (members_in (tree self.now.uses.now.program.now) around)) members.now }
     {
-        members.iter().all(|member| self.is_member(*member, around))
+        let mut rest = members;
+        'members: while let [member, after @ ..] = rest {
+            if !self.is_member(*member, around) {
+                return false;
+            }
+            rest = after;
+        }
+        true
     }
 
     /// Whether this is the conversation right around another, or neither is there.
@@ -122,7 +129,6 @@ impl Rules<'_, '_, '_> {
     }
 
     /// Notes the rules that a `converse` with so many alternates breaks.
-    #[tactic(auto, using(crate::proofs::After::after_append))]
     fn note_join(
         &self,
         again: bool,
@@ -147,7 +153,6 @@ impl Rules<'_, '_, '_> {
     }
 
     /// Notes the rules that a message breaks.
-    #[tactic(auto, using(crate::proofs::After::after_append))]
     fn note_message(&self, deed: Deed, one: &Use<'_>, first: &mut Option<SourceFault>)
         ensures { first.new ≡ first_after first.old (message_faults (tree self.now.uses.now.program.now) (deed_of deed) (held one.now)) }
     {
@@ -177,12 +182,8 @@ impl Rules<'_, '_, '_> {
                 joins.push(*one)?;
                 Ok(())
             }
-            Deed::Sends => {
-                self.note_message(Deed::Sends, one, first);
-                Ok(())
-            }
-            Deed::Receives => {
-                self.note_message(Deed::Receives, one, first);
+            Deed::Sends | Deed::Receives => {
+                self.note_message(one.deed, one, first);
                 Ok(())
             }
         }
