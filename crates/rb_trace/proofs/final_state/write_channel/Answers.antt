@@ -1,4 +1,4 @@
-use Rattle.std.proofs.Common.{◌≡◌, ℕ, ℤ, pos, List, Option, None, Some, option_map, slice_get, rules, w64, ap, sym, inl, inr, ◌∙◌}
+use Rattle.std.proofs.Common.{◌≡◌, ℕ, ℤ, pos, List, None, Some, option_map, slice_get, rules, w64, ap, sym, inl, inr, ◌∙◌}
 use Rattle.std.specs.Fmt.{decimal, signed_decimal}
 use Rattle.std.specs.List.{slice_index}
 use Rattle.std.specs.Option.{unwrap_or}
