@@ -42,16 +42,16 @@ too_long edition bytes n is long =
 pub returns-then-size-gt-LONGEST_NAME-clause-value : goal.returns-then-size-gt-LONGEST_NAME-clause-value
 returns-then-size-gt-LONGEST_NAME-clause-value c =
     ap (λ stop. Faulty stop.name stop.offset) c.at_front.ensures
-    ∙ too_long c.args.edition c.args.bytes.now c.name_len-size.result c.name_len-size.ensures c.if-size-gt-LONGEST_NAME.true
+    ∙ too_long c.args.edition c.args.bytes.now c.name_len-size.result c.name_len-size.ensures (omega arith)
 
 pub returns-then-is_reserved-clause-value : goal.returns-then-is_reserved-clause-value
 returns-then-is_reserved-clause-value c =
-    whole c.args.edition c.args.bytes.now c.name_len-size.result true c.name_len-size.ensures c.if-size-gt-LONGEST_NAME.false
+    whole c.args.edition c.args.bytes.now c.name_len-size.result true c.name_len-size.ensures (omega arith)
     c.if-is_reserved.ensures
 
 pub returns-else-is_reserved-clause-value : goal.returns-else-is_reserved-clause-value
 returns-else-is_reserved-clause-value c =
-    whole c.args.edition c.args.bytes.now c.name_len-size.result false c.name_len-size.ensures c.if-size-gt-LONGEST_NAME.false
+    whole c.args.edition c.args.bytes.now c.name_len-size.result false c.name_len-size.ensures (omega arith)
     c.if-is_reserved.ensures
 
 pub returns-then-is_reserved-clause-within : goal.returns-then-is_reserved-clause-within
