@@ -1,6 +1,7 @@
--- An element that is written at its place.
-use Rattle.std.proofs.Common.{◌≡◌, ◌<◌, ◌+◌, ◌++◌, ℕ, zero, suc, List, [], ◌∷◌, length, get_or, set, map, take, drop, refl, ap, ◌∙◌, arith, not-suc-le-zero, le_of_suc-le-suc}
-use Rattle.std.proofs.lemmas.List.{get_or_default}
+-- An element that is written at its place, and lists that are made element by element.
+use Rattle.std.proofs.Common.{◌≡◌, ◌<◌, ◌+◌, ◌++◌, ℕ, zero, suc, List, [], ◌∷◌, length, get_or, set, map, take, drop, refl, ap, sym, ◌∙◌, arith, not-suc-le-zero, le_of_suc-le-suc}
+use Rattle.std.proofs.lemmas.List.{append-nil, get_or_default, map_more, take_all}
+use Rattle.std.proofs.Math.ListN.{drop_of_length-le}
 use Rattle.std.proofs.lemmas.List.Edits.{map_over_more}
 use Rattle.rb_world.specs.World.{change_at}
 
@@ -23,3 +24,15 @@ pub one_more : {A : Type 0} (f : A → A) (xs ys : List A) (i : ℕ) (d y : A) �
 one_more f xs ys i d y h same so_far wrote =
     let h2 : i < length ys = omega (arith, h, same) in
     ap (set ys i) wrote ∙ map_over_more f xs ys i (get_or ys i d) h so_far (get_or_default ys i d (get_or ys i d) h2)
+
+-- one more element is pushed, which is what the next one gives
+pub pushed : {X Y : Type 0} (f : X → Y) (xs : List X) (i : ℕ) (d : X) (y : Y) (ys more : List Y) → i < length xs
+    → ys ≡ map f (take i xs) → more ≡ ys ++ y ∷ [] → y ≡ f (get_or xs i d) → more ≡ map f (take (i + 1) xs)
+pushed f xs i d y ys more h so_far after is = after ∙ (λ j. so_far j ++ is j ∷ []) ∙ sym (map_more f xs i d h)
+
+-- a whole slice is written back
+pub written_back : {A : Type 0} (old new : List A) (n : ℕ) → n ≡ length old → length new ≡ length old
+    → take n (new ++ drop (length new) old) ≡ new
+written_back {A} old new n whole same =
+    let none : drop (length new) old ≡ [] = drop_of_length-le old (omega (arith, same)) in
+    ap (λ (rest : List A). take n (new ++ rest)) none ∙ ap (take n) (append-nil new) ∙ take_all n new (omega (arith, whole, same))

@@ -92,7 +92,6 @@ impl Table {
 
     /// Member `p` enters conversation `c`. It answers false exactly where the conversation is broken, and
     /// then nothing changes.
-    #[tactic(auto, using(crate::proofs::Places::written))]
     pub fn enter(&mut self, c: u32, p: u32) -> bool
         requires { c < length self.old }
         ensures entered { self.new ≡ change_at c (entered p) self.old }
@@ -104,7 +103,6 @@ impl Table {
 
     /// Member `p`, which is inside conversation `c`, comes to its test line. It answers true exactly where
     /// all members now stand there.
-    #[tactic(auto, using(crate::proofs::Places::written))]
     pub fn arrive(&mut self, c: u32, p: u32) -> bool
         requires { c < length self.old }
         ensures arrived { self.new ≡ change_at c (arrived p) self.old }
@@ -115,7 +113,6 @@ impl Table {
     }
 
     /// All members leave conversation `c` together, and its first alternate is next.
-    #[tactic(auto, using(crate::proofs::Places::written))]
     pub fn pass(&mut self, c: u32)
         requires { c < length self.old }
         ensures passed { self.new ≡ change_at c emptied self.old }

@@ -1,4 +1,5 @@
 pub mod Reserved
+pub mod Choosing
 pub mod Steps
 pub mod Fronts
 pub mod Landing

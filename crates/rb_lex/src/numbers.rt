@@ -31,5 +31,10 @@ pub(crate) fn number_cut(bytes: &[u8]) -> Result<Cut, Stop>
 fn digits_len(bytes: &[u8]) -> usize
     ensures { result ≡ prefix_len is_digit bytes.now }
 {
-    bytes.iter().take_while(|b| is_digit(**b)).count()
+    for (at, b) in bytes.iter().enumerate() {
+        if !is_digit(*b) {
+            return at;
+        }
+    }
+    bytes.len()
 }

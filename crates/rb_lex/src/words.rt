@@ -34,7 +34,12 @@ pub(crate) fn name_cut(edition: Edition, bytes: &[u8]) -> Result<Cut, Stop>
 fn name_len(bytes: &[u8]) -> usize
     ensures { result ≡ prefix_len is_name_byte bytes.now }
 {
-    bytes.iter().take_while(|b| is_name_byte(**b)).count()
+    for (at, b) in bytes.iter().enumerate() {
+        if !is_name_byte(*b) {
+            return at;
+        }
+    }
+    bytes.len()
 }
 
 /// Whether a text is a word of the language in this edition, and so no name.
@@ -81,5 +86,10 @@ fn is_own_word(edition: Edition, text: &[u8]) -> bool
 fn is_listed(words: &[&[u8]], text: &[u8]) -> bool
     ensures { result ≡ list_any (λ word. pointwise nat_eq word.now text.now) words.now }
 {
-    words.iter().any(|word| *word == text)
+    for word in words {
+        if *word == text {
+            return true;
+        }
+    }
+    false
 }

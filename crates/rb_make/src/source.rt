@@ -118,8 +118,7 @@ fn push_first_process(text: &mut Vec<u8>, sizes: Sizes) -> Result<(), Memory>
             Bytes(b"; } else error; send c1 x; }\nelse by { x := 3 * i + 1; send c1 x;"),
         ],
     )?;
-    push_ending(text)?;
-    Ok(())
+    push_ending(text)
 }
 
 fn push_later_processes(text: &mut Vec<u8>, sizes: Sizes) -> Result<(), Memory>
@@ -140,8 +139,7 @@ fn push_later_process(text: &mut Vec<u8>, process: u64, sizes: Sizes) -> Result<
     push_beginning(text, process, sizes)?;
     push_later_primary(text, process, sizes)?;
     push_later_alternate(text, process, sizes)?;
-    push_ending(text)?;
-    Ok(())
+    push_ending(text)
 }
 
 #[tactic(auto, unfolding(crate::specs::Trial::later_primary))]
@@ -176,8 +174,7 @@ fn push_later_alternate(text: &mut Vec<u8>, process: u64, sizes: Sizes) -> Resul
             Bytes(b" x;"),
         ],
     )?;
-    push_send(text, process, sizes)?;
-    Ok(())
+    push_send(text, process, sizes)
 }
 
 /// What a process sends on: the last one nothing.

@@ -12,7 +12,6 @@ use std::alloc::Global;
 
 /// The source and the schedule of the trial of this number. The two texts of one number are the same each time, and each is
 /// short enough to be read.
-#[tactic(auto, using(crate::proofs::Short::short_source_of, crate::proofs::Short::short_schedule_of))]
 pub fn make(alloc: Global, number: u64) -> Result<(Vec<u8>, Vec<u8>), Memory>
     ensures source { IfOk result (λ texts. texts.0.items ≡ source_of number) }
     ensures schedule { IfOk result (λ texts. texts.1.items ≡ schedule_of number) }

@@ -1,5 +1,5 @@
 -- A text that passes through a sink which escapes it.
-use Rattle.std.proofs.Common.{◌≡◌, ℕ, ◌+◌, ◌-◌, ◌*◌, ◌/◌, ◌%◌, ◌^◌, ◌<◌, ◌≤◌, nat_eq, nat_le, nat_lt, Bool, true, false, not, ◌&&◌, ◌||◌, List, [], ◌∷◌, ◌++◌, length, take, get_or, Result, Ok, Err, IfOk, OnErr, Option, Some, None, cond, codes, decimal, refl, sym, ap, ◌∙◌, append_assoc, length-append, arith, subst}
+use Rattle.std.proofs.Common.{◌≡◌, ℕ, ◌+◌, ◌-◌, ◌*◌, ◌/◌, ◌%◌, ◌^◌, ◌<◌, ◌≤◌, nat_eq, nat_le, nat_lt, Bool, true, false, not, ◌&&◌, ◌||◌, List, [], ◌∷◌, ◌++◌, length, take, drop, get_or, Result, Ok, Err, IfOk, OnErr, Option, Some, None, cond, codes, decimal, refl, sym, ap, ◌∙◌, append_assoc, length-append, arith, subst}
 use Rattle.std.proofs.lemmas.Bool.Decides.{nat_tests}
 use Rattle.std.proofs.lemmas.Fmt.{decimal_by_steps}
 use Rattle.rb_page.specs.Escape.{escaped, escaped_byte, is_plain, reference}
@@ -7,7 +7,7 @@ use Rattle.rb_page.specs.Told.{Passes, are_bytes, has_grown, put_since, told, un
 use Rattle.rb_outside.specs.Outside.{then_written}
 use Rattle.std.proofs.Math.Seq.{drop-append_seam}
 use Rattle.std.proofs.lemmas.Grind.{flat_map-append}
-use Rattle.std.proofs.lemmas.List.{append-nil}
+use Rattle.std.proofs.lemmas.List.{append-nil, take-append-drop}
 use Rattle.rb_outside.proofs.Written.{then_written-append, then_written-nil}
 
 -- one digit is read
@@ -107,6 +107,15 @@ passed_on start now after rest left more is same p =
     let family : Option (List ℕ) → Type 0 =
     λ v. (v ≡ then_written start (escaped (put_since start v))) × (has_grown start after ≡ true) × (are_bytes (put_since start v) ≡ true) in
     subst family (sym same) (p.0, ap (has_grown start) is ∙ grows start now more p.1, p.2)
+
+-- what a sink took of what is left, and what is left then
+pub took : (now after : Option (List ℕ)) (rest shown left : List ℕ) (n : ℕ) → shown ≡ rest → after ≡ then_written now (take n shown)
+    → left ≡ drop n rest → then_written after left ≡ then_written now rest
+took now after rest shown left n is wrote behind =
+    (λ i. then_written (wrote i) (behind i))
+    ∙ then_written-append now (take n shown) (drop n rest)
+    ∙ ap (λ (text : List ℕ). then_written now (take n text ++ drop n rest)) is
+    ∙ ap (then_written now) (take-append-drop n rest)
 
 -- more of a text was put
 pub put_on : (start now after : Option (List ℕ)) (rest left more front : List ℕ) → after ≡ then_written now front → are_bytes more ≡ true

@@ -9,8 +9,9 @@ use Rattle.rb_base.specs.declared.fault.FaultName.{FaultName}
 use Rattle.rb_base.specs.declared.fault.FaultName.TheVariants.{T1, T2, T3, T4}
 use Rattle.rb_base.specs.declared.limits.TheConstants.{MOST_TURNS}
 use Rattle.rb_base.specs.Bytes.{is_name, is_number, digits_value}
+use Rattle.rb_base.specs.Naming.{first_named}
 use Rattle.rb_sched.specs.Schedule.{Whose, One, Everyone, whose, numbers_from, rounds, turns_of, count_of, counted_line, line_of_words, line_turns, words_of}
-use Rattle.rb_sched.specs.Lines.{fitting}
+use Rattle.rb_sched.specs.Lines.{counted, fitting}
 use Rattle.rb_sched.proofs.TurnsLeft.{length_rounds}
 
 -- every turn is that of one of so many processes
@@ -95,6 +96,53 @@ turns_of_known k Everyone n known = Known-rounds k n
 length-turns_of : (k : ℕ) (who : Whose) (n : ℕ) → length (turns_of k who n) ≡ count_of k who n
 length-turns_of k (One p) n = length-replicate n p
 length-turns_of k Everyone n = length_rounds k n
+
+-- a count that is not let through
+pub counted_refused : (names : List (List ℕ)) (before : ℕ) (who : Whose) (n : ℕ) (fault : FaultName) → Err fault ≡ counted n
+    → counted_line names before (Some who) n ≡ Err fault
+counted_refused names before who n fault e = by_test (n == 0 || nat_lt MOST_TURNS n) e
+  where
+    by_test : (t : Bool) → Err fault ≡ cond t (Err T3) (Ok n)
+        → cond t (Err T3)
+        (cond (nat_lt MOST_TURNS (before + count_of (length names) who n)) (Err T4) (Ok (turns_of (length names) who n))) ≡ Err fault
+    by_test true e = cc
+    by_test false e = absurd (cc)
+
+-- a count that is let through
+pub counted_fits : (names : List (List ℕ)) (before : ℕ) (who : Whose) (n count : ℕ) → Ok count ≡ counted n
+    → counted_line names before (Some who) n ≡ fitting before (turns_of (length names) who count)
+counted_fits names before who n count e = by_test (n == 0 || nat_lt MOST_TURNS n) e
+  where
+    by_test : (t : Bool) → Ok count ≡ cond t (Err T3) (Ok n)
+        → cond t (Err T3)
+        (cond (nat_lt MOST_TURNS (before + count_of (length names) who n)) (Err T4) (Ok (turns_of (length names) who n)))
+        ≡ fitting before (turns_of (length names) who count)
+    by_test true e = absurd (cc)
+    by_test false e =
+        let same : n ≡ count = cc in
+        ap (λ m. cond (nat_lt MOST_TURNS (before + m)) (Err T4) (Ok (turns_of (length names) who n))) (sym (length-turns_of (length names) who n))
+        ∙ ap (λ m. fitting before (turns_of (length names) who m)) same
+
+-- and is not above the greatest
+pub counted_few : (n count : ℕ) → Ok count ≡ counted n → count ≤ MOST_TURNS
+counted_few n count e = by_test (n == 0 || nat_lt MOST_TURNS n) refl e
+  where
+    by_test : (t : Bool) → t ≡ (n == 0 || nat_lt MOST_TURNS n) → Ok count ≡ cond t (Err T3) (Ok n) → count ≤ MOST_TURNS
+    by_test true is e = absurd (cc)
+    by_test false is e = let same : n ≡ count = cc in grind (arith, nat_tests)
+
+-- the word that stands for all
+pub all_named : (names : List (List ℕ)) (word all : List ℕ) → all ≡ codes "all" → true ≡ pointwise nat_eq all word
+    → whose names word ≡ Some Everyone
+all_named names word all is e =
+    ap (λ t. cond t (Some Everyone) (named (first_named names word))) (sym (e ∙ ap (λ text. pointwise nat_eq text word) is))
+
+-- the name of a process
+pub one_named : (names : List (List ℕ)) (word all : List ℕ) (p : ℕ) → all ≡ codes "all" → false ≡ pointwise nat_eq all word
+    → Some p ≡ first_named names word → whose names word ≡ Some (One p)
+one_named names word all p is e first =
+    ap (λ t. cond t (Some Everyone) (named (first_named names word))) (sym (e ∙ ap (λ text. pointwise nat_eq text word) is))
+    ∙ ap named (sym first)
 
 -- a line with a name and a count
 counted_gives : (names : List (List ℕ)) (who : Option Whose) (n : ℕ) → IsWhose (length names) who

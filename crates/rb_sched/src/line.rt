@@ -23,7 +23,6 @@ fn judged_count(digits: &[u8]) -> Result<u32, FaultName>
 }
 
 /// The turns of a name and a count.
-#[tactic(auto, using(crate::proofs::TurnsLeft::length_rounds, rb_base::proofs::Named::length_process_names))]
 fn named_rounds(name: &[u8], count: &[u8], names: &Names) -> Result<Rounds, FaultName>
     requires { vec_len names.now.processes < 2 ^ 32 }
     ensures { let known = process_names names.now in

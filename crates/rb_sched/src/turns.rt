@@ -27,7 +27,6 @@ fn with_line(before: u32, line: &[u8], names: &Names) -> Result<u32, FaultName>
 }
 
 /// How many turns a text has, or its first fault.
-#[tactic(auto, using(crate::proofs::Walk::read_more))]
 pub(crate) fn count_turns(text: &[u8], names: &Names) -> Result<u32, TextFault>
     requires short { length text.now ≤ MOST_BYTES }
     ensures { let answer = schedule_of (process_names names.now) text.now in

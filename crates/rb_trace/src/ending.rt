@@ -7,7 +7,7 @@ ghost use Rattle.rb_world.specs.Text.{line_of};
 ghost use Rattle.rb_trace.specs.Ending.{state_words};
 ghost use Rattle.rb_trace.specs.Lines.{spaced};
 
-use crate::line::{put, put_line};
+use crate::line::{put, put_after, put_line};
 use itoa::Buffer;
 use rb_base::State;
 use rb_outside::{Failed, Sink};
@@ -54,13 +54,6 @@ pub(crate) fn put_name<S: Sink>(out: &mut S, process: &[u8], variable: &[u8]) ->
 {
     put(out, process)?;
     put_after(out, b".", variable)
-}
-
-fn put_after<S: Sink>(out: &mut S, before: &[u8], bytes: &[u8]) -> Result<(), Failed>
-    ensures { Puts (before.now ++ bytes.now) (S.written out.old) (S.written out.new) (S.faults out.old) (S.faults out.new) result }
-{
-    put(out, before)?;
-    put(out, bytes)
 }
 
 fn put_numbers<S: Sink>(out: &mut S, values: &[i64]) -> Result<(), Failed>

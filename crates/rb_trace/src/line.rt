@@ -4,7 +4,7 @@ ghost use Rattle.std.specs.Prelude.{◌≡◌, ℕ, List, [], ◌∷◌, ◌++�
 ghost use Rattle.std.specs.List.{flat_map};
 ghost use Rattle.rb_outside.specs.Puts.{Puts};
 ghost use Rattle.rb_world.specs.Text.{line_of};
-ghost use Rattle.rb_trace.specs.Lines.{spaced, spaced_word};
+ghost use Rattle.rb_trace.specs.Lines.{spaced};
 
 use rb_outside::put::put_all;
 use rb_outside::{Failed, Sink};
@@ -47,16 +47,17 @@ fn put_others<S: Sink>(out: &mut S, words: &[&[u8]]) -> Result<(), Failed>
     ensures { Puts (spaced (map (λ word. word.now) words.now)) (S.written out.old) (S.written out.new) (S.faults out.old) (S.faults out.new) result }
 {
     for word in words {
-        put_spaced(out, word)?;
+        put_after(out, b" ", word)?;
     }
     Ok(())
 }
 
-fn put_spaced<S: Sink>(out: &mut S, word: &[u8]) -> Result<(), Failed>
-    ensures { Puts (spaced_word word.now) (S.written out.old) (S.written out.new) (S.faults out.old) (S.faults out.new) result }
+// Bytes, and then others.
+pub(crate) fn put_after<S: Sink>(out: &mut S, before: &[u8], bytes: &[u8]) -> Result<(), Failed>
+    ensures { Puts (before.now ++ bytes.now) (S.written out.old) (S.written out.new) (S.faults out.old) (S.faults out.new) result }
 {
-    put(out, b" ")?;
-    put(out, word)
+    put(out, before)?;
+    put(out, bytes)
 }
 
 /// Writes pieces one after another.

@@ -1,7 +1,8 @@
 use Rattle.std.proofs.Common.{append_assoc, append-nil}
+use Rattle.std.proofs.lemmas.Result.{IfOk-equal}
 use Rattle.rb_make.specs.Trial.{first_process}
 use Rattle.rb_make.proofs.source.push_first_process.Goals as goal
 
 pub returns : goal.returns
 unfolding first_process
-returns c = simp (c.in_ok-push_ending.ensures, c.in_ok-push.ensures, c.in_ok-push_beginning.ensures, append_assoc, append-nil)
+returns c = IfOk-equal _ _ _ _ c.push_ending.ensures (simp (c.in_ok-push.ensures, c.in_ok-push_beginning.ensures, append_assoc, append-nil))

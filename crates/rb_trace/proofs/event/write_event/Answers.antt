@@ -17,3 +17,6 @@ returns-in-Error g c = rw (c.in-Error.is, ← c.process_of-in-Error.ensures, ←
 
 pub returns-in-Pass : goal.returns-in-Pass
 returns-in-Pass g c = rw (c.in-Pass.is, ← c.conversation_of.ensures) c.write_pass.ensures
+
+pub returns-in-Done : goal.returns-in-Done
+returns-in-Done g c = rw (c.in-Done.is, ← c.process_of-in-Done.ensures) c.write_done.ensures

@@ -1,8 +1,14 @@
 use Rattle.std.proofs.Common.{ℕ, List, Bor, [], ◌∷◌, ◌++◌, map}
-use Rattle.rb_outside.proofs.Puts.{puts_both}
+use Rattle.rb_outside.proofs.Puts.{puts_both, puts_stopped_at}
 use Rattle.rb_trace.specs.Lines.{spaced}
 use Rattle.rb_trace.proofs.line.put_first.Goals as goal
 
 pub returns : goal.returns
 returns g c = puts_both c.args.first.now
     (spaced (map (λ (word : Bor (List ℕ)). word.now) c.args.others.now) ++ 10 ∷ []) _ _ _ _ _ _ _ _ c.in_ok-put.ensures c.put_rest.ensures
+
+pub returns-in_err-put : goal.returns-in_err-put
+returns-in_err-put g c =
+    puts_stopped_at c.args.first.now
+    (spaced (map (λ (word : Bor (List ℕ)). word.now) c.args.others.now)
+    ++ 10 ∷ []) _ _ _ _ _ c.from_residual.result c.from_residual.ensures.0 c.in_err-put.ensures

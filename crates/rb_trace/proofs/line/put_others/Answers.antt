@@ -8,11 +8,11 @@ use Rattle.rb_trace.proofs.line.put_others.Goals as goal
 pub loop-word-init : goal.loop-word-init
 loop-word-init g c = puts_nothing _ _ _
 
-pub returns-in_err-put_spaced : goal.returns-in_err-put_spaced
-returns-in_err-put_spaced g c =
+pub returns-in_err-put_after : goal.returns-in_err-put_after
+returns-in_err-put_after g c =
     let next = puts_next
     (λ (word : Bor
-    (List ℕ)). spaced_word word.now) c.args.words.now c.loop-word.word-index _ c.loop-word-test.true _ _ _ _ _ _ _ _ c.loop-word.invariant c.in_err-put_spaced.ensures in
+    (List ℕ)). spaced_word word.now) c.args.words.now c.loop-word.word-index _ c.loop-word-test.true _ _ _ _ _ _ _ _ c.loop-word.invariant c.in_err-put_after.ensures in
     let all = puts_part
     (λ (word : Bor (List ℕ)). spaced_word word.now) c.args.words.now _ _ _ _ _ _ c.from_residual.result c.from_residual.ensures.0 next in
     puts_same _ _ _ _ _ _ _ (sym (flat_map-map spaced_word (λ (word : Bor (List ℕ)). word.now) c.args.words.now)) all
@@ -20,7 +20,7 @@ returns-in_err-put_spaced g c =
 pub loop-word-preserved : goal.loop-word-preserved
 loop-word-preserved g c =
     puts_next (λ (word : Bor
-    (List ℕ)). spaced_word word.now) c.args.words.now c.loop-word.word-index _ c.loop-word-test.true _ _ _ _ _ _ _ _ c.loop-word.invariant c.in_ok-put_spaced.ensures
+    (List ℕ)). spaced_word word.now) c.args.words.now c.loop-word.word-index _ c.loop-word-test.true _ _ _ _ _ _ _ _ c.loop-word.invariant c.in_ok-put_after.ensures
 
 pub returns : goal.returns
 returns g c =

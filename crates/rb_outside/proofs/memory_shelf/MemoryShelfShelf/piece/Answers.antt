@@ -1,18 +1,43 @@
-use Rattle.std.proofs.Common.{◌≡◌, ◌+◌, Some, List, ◌∷◌, map, true, drop, sym, ap, subst, ◌∙◌}
+use Rattle.std.proofs.Common.{◌≡◌, ◌+◌, min, Some, List, ◌∷◌, length, map, true, drop, sym, ap, subst, ◌∙◌, arith, length-take}
 use Rattle.rb_outside.specs.Outside.{File, Start, IsOpen, Reads}
 use Rattle.rb_outside.specs.InMemory.{started_bytes}
 use Rattle.rb_outside.specs.Started.{stored_files, start_of, starts_of, name_at, AreSound, IsReading}
-use Rattle.rb_outside.proofs.Pieces.{piece_passes}
+use Rattle.rb_outside.proofs.Pieces.{piece_passes, IsReading-after}
 use Rattle.rb_outside.proofs.memory_shelf.MemoryShelfShelf.piece.Goals as goal
+
+pub overflow_add-self : goal.overflow_add-self
+overflow_add-self c =
+    let rest = c.rest_of_file-rest.result.now in
+    let size = c.copy_front-n.ensures.size ∙ length-take (min c.self.inside.most (length c.args.buffer.now)) rest in
+    omega (arith, size, c.rest_of_file-rest.ensures.fits)
+
+pub invariant_of-self-2 : goal.invariant_of-self-2
+invariant_of-self-2 c =
+    let files : List File = stored_files c.self.inside.files.items in
+    let newest = c.in-Some.newest in
+    let rest = c.rest_of_file-rest.result.now in
+    let is = c.rest_of_file-rest.ensures.bytes
+    ∙ ap (λ ps. drop newest.passed (started_bytes (stored_files ps) (name_at (stored_files ps) newest.file))) c.as_slice.ensures.value in
+    let sound = subst (λ o. AreSound files o c.self.inside.earlier.starts) c.in-Some.is c.self.invariant.1 in (
+      c.self.invariant.0,
+      λ went. IsReading-after files newest rest (min c.self.inside.most (length c.args.buffer.now)) c.copy_front-n.result (sound went) is
+          c.copy_front-n.ensures.size,
+    )
+
+pub returns-clause-fits : goal.returns-clause-fits
+returns-clause-fits c =
+    let rest = c.rest_of_file-rest.result.now in
+    let size = c.copy_front-n.ensures.size ∙ length-take (min c.self.inside.most (length c.args.buffer.now)) rest in
+    omega (arith, size, c.copy_front-n.auto.buffer)
 
 pub returns-clause-ok : goal.returns-clause-ok
 returns-clause-ok c =
     let pairs = c.self.inside.files.items in
     let files : List File = stored_files pairs in
-    let newest = c.in_ok-newest.newest in
+    let newest = c.in-Some.newest in
     let earlier = c.self.inside.earlier.starts in
     let others : List Start = map (start_of files) earlier in
-    let is_newest = c.in_ok-newest.ensures.ok_part in
+    let is_newest = c.in-Some.is in
     let files_are : c.args.self.now.files ≡ files = ap (λ s. s.files) (sym c.self.view_is) in
     let starts_are : c.args.self.now.starts ≡ start_of files newest ∷ others =
     ap (λ s. s.starts) (sym c.self.view_is) ∙ ap (λ o. starts_of files o earlier) is_newest in

@@ -1,0 +1,7 @@
+use Rattle.std.proofs.Common.{◌≡◌, ◌+◌, drop}
+use Rattle.std.specs.List.{prefix_len}
+use Rattle.rb_base.specs.Bytes.{is_name_byte}
+use Rattle.rb_lex.proofs.words.name_len.Given as goal
+
+abbrev pub invariant-loop-at : goal.invariant-loop-at
+invariant-loop-at l = l.at + prefix_len is_name_byte (drop l.at l.bytes) ≡ prefix_len is_name_byte l.bytes

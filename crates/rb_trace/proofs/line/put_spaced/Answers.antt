@@ -1,6 +1,0 @@
-use Rattle.std.proofs.Common.{[], ◌∷◌}
-use Rattle.rb_outside.proofs.Puts.{puts_both}
-use Rattle.rb_trace.proofs.line.put_spaced.Goals as goal
-
-pub returns : goal.returns
-returns g c = puts_both (32 ∷ []) c.args.word.now _ _ _ _ _ _ _ _ c.in_ok-put.ensures c.put-2.ensures
