@@ -1,7 +1,8 @@
 -- What plain code lists stands in the lists of the code in memory that it is of.
-use Rattle.std.proofs.Common.{◌≡◌, ℕ, ◌<◌, List, length, slice_get, Option, Some, None, refl, subst}
+use Rattle.std.proofs.Common.{◌≡◌, ℕ, ◌<◌, List, length, slice_get, Option, Some, None, refl, ap, sym, ◌∙◌, subst}
 use Rattle.std.proofs.lemmas.List.{length-map}
-use Rattle.std.proofs.lemmas.Option.{slice_get_within}
+use Rattle.std.specs.Prelude.{get_or}
+use Rattle.std.proofs.lemmas.Option.{slice_get_read, slice_get_within}
 use Rattle.rb_code.specs.Instructions.Plain.{block, code as plain, part}
 use Rattle.rb_code.specs.SoundCode.Safe.{IsThere}
 use Rattle.rb_code.specs.SoundCode.Stands.{RestsAt}
@@ -29,3 +30,8 @@ rests_there (Some i) h = tt
 
 pub rests_among : (instrs : List Instr) (at : ℕ) → RestsAt (slice_get instrs at) → at < length instrs
 rests_among instrs at h = is_among instrs at (rests_there (slice_get instrs at) h)
+
+-- what was read of a list that was lent
+pub read_there : {A : Type 0} (lent items : List A) (k : ℕ) (x y : A) → lent ≡ items → k < length lent → x ≡ get_or lent k x → x ≡ y → slice_get items k ≡ Some y
+read_there {A} lent items k x y same within read is =
+    ap (λ (xs : List A). slice_get xs k) (sym same) ∙ slice_get_read lent (length lent) k x refl within read ∙ ap Some is

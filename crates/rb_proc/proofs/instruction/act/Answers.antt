@@ -1,4 +1,5 @@
-use Rattle.std.proofs.Common.{◌≡◌, ℕ, ◌+◌, ◌*◌, ◌<◌, ◌≤◌, ℤ, pos, ◌∷◌, length, slice_get, refl, ap, sym, ◌∙◌, subst, arith}
+use Rattle.std.proofs.Common.{◌≡◌, ℕ, ◌+◌, ◌*◌, ◌<◌, ◌≤◌, ℤ, pos, ◌∷◌, length, slice_get, refl, ap, sym, ◌∙◌, subst, arith, rules, w64}
+use Rattle.std.proofs.lemmas.Int.{to_z-of_z}
 use Rattle.rb_meaning.specs.Environment.{natural}
 use Rattle.rb_world.specs.Slots.{Slots}
 use Rattle.rb_world.specs.World.{copy_of, last_of}
@@ -196,6 +197,14 @@ pub act_on_channel-requires-clause-ready : goal.act_on_channel-requires-clause-r
 act_on_channel-requires-clause-ready g c =
     let code = plain c.args.code.now in
     (pieces_in code.texts c.args.bench.now, c.args.bench.now.counters, c.requires.ready)
+
+pub returns-in-Push-clause-moved : goal.returns-in-Push-clause-moved
+returns-in-Push-clause-moved g c =
+    let code = plain c.args.code.now in let see = see_of c.args.sight.now c.args.memory.now.levels in
+    let m = whole code.texts c.args.bench.now c.args.memory.now c.args.mails.now in
+    c.push.ensures m
+    ∙ ap (λ (z : ℤ). Going (c.args.at + 1) (z ∷ c.args.operands.now) m) (to_z-of_z w64 c.in-Push.n (search rules))
+    ∙ ap (λ (i : Instr). acted code see i c.args.at c.args.operands.now m) (sym c.in-Push.is)
 
 pub returns-in-Load-clause-moved : goal.returns-in-Load-clause-moved
 returns-in-Load-clause-moved g c =

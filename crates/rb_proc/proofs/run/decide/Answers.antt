@@ -22,15 +22,3 @@ returns-in_default c m =
     ap (λ (operands : List ℤ). Going c.args.next operands m) value
     ∙ pushed c.instr_at.result.now c.args.next c.args.holds c.args.operands.now m c.in_default.not-JumpZero
     ∙ ap (λ (o : Option Instr). decided o c.args.next c.args.holds c.args.operands.now m) (sym there)
-
-pub returns-in-JumpZero : goal.returns-in-JumpZero
-returns-in-JumpZero c m =
-    let there = slice_get_read c.args.instrs.now (length c.args.instrs.now) c.args.next c.instr_at.result.now refl c.requires.there c.instr_at.ensures in
-    sym (ap (λ (o : Option Instr). decided o c.args.next c.args.holds c.args.operands.now m) (there ∙ ap Some c.in-JumpZero.is)
-    ∙ ap (λ (holds : Bool). decided (Some (JumpZero c.in-JumpZero.field-0)) c.args.next holds c.args.operands.now m) c.if-holds.true)
-
-pub returns-in-JumpZero-2 : goal.returns-in-JumpZero-2
-returns-in-JumpZero-2 c m =
-    let there = slice_get_read c.args.instrs.now (length c.args.instrs.now) c.args.next c.instr_at.result.now refl c.requires.there c.instr_at.ensures in
-    sym (ap (λ (o : Option Instr). decided o c.args.next c.args.holds c.args.operands.now m) (there ∙ ap Some c.in-JumpZero-2.is)
-    ∙ ap (λ (holds : Bool). decided (Some (JumpZero c.in-JumpZero-2.to)) c.args.next holds c.args.operands.now m) c.if-holds.false)
