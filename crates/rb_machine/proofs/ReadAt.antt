@@ -1,5 +1,6 @@
 -- What is read of a process by its number.
-use Rattle.std.proofs.Common.{◌≡◌, ◌<◌, ℕ, ℤ, zero, suc, List, [], ◌∷◌, length, option_map, slice_get, unwrap_or, Option, Some, ap, sym, ◌∙◌, arith}
+use Rattle.std.proofs.Common.{◌≡◌, ◌<◌, ℕ, ℤ, zero, suc, List, [], ◌∷◌, length, option_map, slice_get, unwrap_or, Option, Some, ap, sym, ◌∙◌, subst, arith}
+use Rattle.std.proofs.lemmas.List.{length-map}
 use Rattle.std.proofs.lemmas.Option.{slice_get-map}
 use Rattle.rb_base.specs.Lines.{belonging}
 use Rattle.rb_base.specs.declared.event.State.{State}
@@ -36,3 +37,10 @@ variables_there c procs p one e =
     ap (λ (o : Option (List ℤ)). unwrap_or o [])
     (slice_get-map (λ (q : Process Standing Copy). variable_words c q.state) (processes_of procs) p
     ∙ ap (option_map (λ (q : Process Standing Copy). variable_words c q.state)) (process_there procs p one e))
+
+-- a process that contracts see is there
+pub process_listed : (procs items : List Seen) (processes : List (Process Standing Copy)) (p : ℕ) → procs ≡ items → processes_of items ≡ processes
+    → p < length processes → p < length procs
+process_listed procs items processes p e seen h =
+    subst (λ n. p < n)
+    (ap length (sym seen) ∙ length-map items (λ (one : Seen). one.process) ∙ ap length (sym e)) h

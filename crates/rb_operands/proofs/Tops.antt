@@ -37,6 +37,10 @@ module _ (xs : List ℤ) (p : ℕ) (h : p ≤ length xs) where
       below_are p (reverse xs) ∙ ap (drop p) turned
       ∙ drop_at (reverse (drop (length xs - p) xs)) (reverse (take (length xs - p) xs)) p long
 
+-- so many numbers lie in memory as are seen
+pub height_is : (vs xs : List ℤ) (h : ℕ) → h ≤ length vs → reverse (take h vs) ≡ xs → h ≡ length xs
+height_is vs xs h le e = sym (length-take-le h vs le) ∙ sym (length-reverse (take h vs)) ∙ ap length e
+
 pub arguments_long : (p : ℕ) (xs : List ℤ) → p ≤ length xs → length (arguments p xs) ≡ p
 arguments_long zero xs h = refl
 arguments_long (suc p) [] h = absurd (omega arith)

@@ -1,4 +1,5 @@
 -- Lemmas of a process of the machine.
+pub mod Listed
 pub mod Rising
 pub mod Fronts
 pub mod Levels

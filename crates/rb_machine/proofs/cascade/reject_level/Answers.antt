@@ -1,7 +1,8 @@
-use Rattle.std.proofs.Common.{nat_eq, nat_lt, refl}
+use Rattle.std.proofs.Common.{◌<◌, length, nat_eq, nat_lt, refl, subst, arith}
+use Rattle.rb_scope.proofs.Long.{got}
 use Rattle.rb_conv.specs.Conversations.{conversation_at}
 use Rattle.rb_conv.specs.Reject.{has_next}
-use Rattle.rb_proc.specs.Process.{kind_of}
+use Rattle.rb_proc.specs.Process.{Seen, kind_of}
 use Rattle.rb_machine.specs.Rejections.{tried_alone, tried_together}
 use Rattle.rb_machine.specs.Work.{inside_one}
 use Rattle.rb_machine.proofs.Rejecting.LevelRejected.{alone_may, alone_quiet, alone_rejected, alone_waits, conversation_there}
@@ -126,3 +127,17 @@ returns-in-Some-clause-fewer g c x =
     let lone = nat_eq a.inner 0 in
     all_fewer (inside_one x) (tried_together k more lone d) (inside_together k x more lone d) a.procs.now gone.new.procs
     (gone.ensures.processes some_code)
+
+pub level-level-requires : goal.level-level-requires
+level-level-requires g c =
+    let one = c.index-procs-p.result in
+    let may = c.requires.may one (got c.args.procs.now c.args.p one c.requires.process c.index-procs-p.is) in
+    let within = may.within in
+    subst (λ (x : Seen). c.args.inner < length x.process.levels) c.index-procs-p.is (omega arith)
+
+pub reject_alone-requires-clause-level : goal.reject_alone-requires-clause-level
+reject_alone-requires-clause-level g c =
+    let one = c.index-procs-p-in-None.result in
+    let may = c.requires.may one (got c.args.procs.now c.args.p one c.requires.process c.index-procs-p-in-None.is) in
+    let within = may.within in
+    subst (λ (x : Seen). c.args.inner < length x.process.levels) c.index-procs-p-in-None.is (omega arith)

@@ -1,8 +1,9 @@
 -- The two ends, as they were looked up, and the room between them.
 use Rattle.std.proofs.Common.{◌∙◌, sym, nat_lt, ◌+◌, arith}
+use Rattle.std.proofs.lemmas.List.{length-map}
 use Rattle.rb_scope.proofs.Long.{got}
-use Rattle.rb_code.specs.Instructions.Plain.{code as plain, channel as channel_of}
-use Rattle.rb_machine.proofs.Passing.RoomsAndMessages.{channel_lent, compared, receiver_has_cursor, room_is}
+use Rattle.rb_code.specs.Instructions.Plain.{code as plain, channel as channel_of, part}
+use Rattle.rb_machine.proofs.Passing.RoomsAndMessages.{channel_lent, compared, is_of_code, receiver_has_cursor, room_is}
 use Rattle.rb_machine.proofs.channels.has_room.Goals as goal
 
 pub room_from-from-requires : goal.room_from-from-requires
@@ -27,3 +28,13 @@ returns-clause-room g c groups talks memory =
     ∙ (compared (λ m n. nat_lt m (ends.size + n)) _ _ _ _ c.cursor-sent.ensures.cursor c.room_from-from.ensures.cursor
     ∙ sym (room_is (plain c.args.code.now) groups c.args.procs.now c.requires.numbered talks memory c.args.channel ends there
     c.index-procs-sender.result c.index-procs-receiver.result sender receiver))
+
+pub cursor-sent-requires : goal.cursor-sent-requires
+cursor-sent-requires g c =
+    let ends = channel_of c.in-Some.ends.now in
+    let sender = got c.args.procs.now ends.sender c.index-procs-sender.result (omega (arith, c.if-sender-procs.false)) c.index-procs-sender.is in
+    omega (
+      arith,
+      is_of_code (plain c.args.code.now) c.args.procs.now c.requires.numbered ends.sender c.index-procs-sender.result sender,
+      length-map c.args.code.now.processes.items part,
+    )

@@ -1,5 +1,5 @@
 -- The turn is counted, and then goes on in the world in which it was.
-use Rattle.std.proofs.Common.{ap, sym, ◌∙◌, subst, List, Some, option_map, slice_get, position, arith}
+use Rattle.std.proofs.Common.{ap, sym, ◌∙◌, subst, length, List, Some, option_map, slice_get, position, arith}
 use Rattle.std.proofs.lemmas.List.{with_items_is}
 use Rattle.std.specs.Vec.{with_items}
 use Rattle.rb_world.specs.Turn.{bounded, is_over, turn_used}
@@ -97,3 +97,9 @@ returns-clause-work g c one there =
     ∙ (slice_get-change_at c.args.p (changed turn_used) procs ∙ ap (option_map (changed turn_used)) there)))
     (ap (λ (x : WordWorld). looking (enters_there code (bounded k c.args.turn c.args.p q x (position is_over q.levels)).kind (Some q))) (sym w))
     (ap (λ (x : WordWorld). named_within code groups c.args.turn c.args.p q x (position is_over q.levels)) (sym w))
+
+pub go_on-requires-clause-process : goal.go_on-requires-clause-process
+go_on-requires-clause-process g c =
+    let parts = c.args.parts.now in
+    let kept = with_items_is parts.procs c.count-over.new.procs (omega (arith, c.count-over.auto.procs, c.deref_mut.ensures.len)) in
+    omega (arith, c.requires.process, c.count-over.auto.procs, ap length kept, ap length c.deref_mut.ensures.value)

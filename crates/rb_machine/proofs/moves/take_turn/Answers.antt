@@ -1,5 +1,5 @@
 -- A process that is there and runs takes its turn, and no other does.
-use Rattle.std.proofs.Common.{ap, sym, ◌∙◌, refl, List, slice_get}
+use Rattle.std.proofs.Common.{◌≡◌, ap, sym, ◌∙◌, refl, List, slice_get}
 use Rattle.std.proofs.lemmas.Option.{slice_get_within}
 use Rattle.rb_world.proofs.ListFacts.{some_same}
 use Rattle.rb_code.specs.Instructions.Plain.{code as plain}
@@ -15,7 +15,11 @@ use Rattle.rb_machine.proofs.Turning.Ended.{leads_as}
 use Rattle.rb_machine.proofs.Knowing.KnownHere.{process_there}
 use Rattle.rb_machine.proofs.Working.MoveWork.{pays_nothing, pays_same, running_looks, running_names}
 use Rattle.rb_machine.proofs.Turning.TurnsTaken.{rests, running_there, runs_counted}
+use Rattle.rb_machine.specs.declared.moves.Move.TheVariants.{Rests, Went}
 use Rattle.rb_machine.proofs.moves.take_turn.Goals as goal
+
+rests_not_went : Rests ≡ Went → ⊥
+rests_not_went e = cc
 
 pub run-requires-clause-process : goal.run-requires-clause-process
 run-requires-clause-process g c =
@@ -58,7 +62,7 @@ returns-then-is_running-clause-ran g c e =
     ∙ (sym c.is_running.ensures ∙ c.if-is_running.true)
 
 pub returns-else-is_running-clause-ran : goal.returns-else-is_running-clause-ran
-returns-else-is_running-clause-ran g c e = absurd (let no_way : ⊥ = cc in no_way)
+returns-else-is_running-clause-ran g c e = absurd (rests_not_went e)
 
 pub returns-else-is_running-clause-stays : goal.returns-else-is_running-clause-stays
 returns-else-is_running-clause-stays g c = record { table = refl; waits = c.requires.work.waits; sized = c.requires.work.work.sized }

@@ -1,10 +1,11 @@
-use Rattle.std.proofs.Common.{ap, sym, ◌∙◌}
+use Rattle.std.proofs.Common.{length, ap, sym, ◌∙◌, subst}
 use Rattle.std.proofs.lemmas.Option.{get_or_from_slice_get}
+use Rattle.rb_scope.proofs.Long.{got}
 use Rattle.rb_code.specs.Instructions.Plain.{code as plain}
 use Rattle.rb_proc.specs.Process.{Seen}
 use Rattle.rb_world.specs.World.{last_of}
 use Rattle.rb_machine.specs.Channels.{conversation_in}
-use Rattle.rb_machine.specs.Stepping.{}
+use Rattle.rb_machine.specs.Stepping.{IsListed}
 use Rattle.rb_machine.proofs.Turning.TestLines.{alone_taken, gone_waits, stood_leave, stood_waits, together_taken}
 use Rattle.rb_machine.proofs.Working.LineWork.{alone_named, together_named}
 use Rattle.rb_machine.proofs.test_line.accept.Goals as goal
@@ -54,3 +55,10 @@ returns-in-Some-clause-work g c = λ one memory e.
     let conversation = sym c.in-Some.is ∙ (c.conversation_of.ensures ∙ ap (λ (x : Seen). conversation_in (last_of x.process.levels)) same) in
     together_named (plain c.args.code.now) c.args.steps.now c.pass_line.new.steps memory procs c.args.table.now c.args.p one e c.in-Some.conversation
     c.stand.new.procs conversation c.stand.ensures (c.pass_line.ensures.work memory)
+
+pub pass_line-requires-clause-conversation : goal.pass_line-requires-clause-conversation
+pass_line-requires-clause-conversation g c =
+    let there = got c.args.procs.now c.args.p c.index-procs-p.result c.requires.process c.index-procs-p.is in
+    subst (IsListed (length c.args.table.now))
+    (ap (λ (x : Seen). conversation_in (last_of x.process.levels)) c.index-procs-p.is ∙ sym c.conversation_of.ensures ∙ c.in-Some.is)
+    (c.requires.listed c.index-procs-p.result there)

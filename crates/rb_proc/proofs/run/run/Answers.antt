@@ -464,3 +464,36 @@ returns-in-Stop-clause-done g c =
     let q = fetched code see (IsUnchanged first) calls start most c.turn.at xs m end c.turn.invariant.runs i
     (c.instr_at-instr.ensures ∙ ap (λ (xs : List Instr). get_or xs c.turn.at c.instr_at-instr.result.now) c.as_slice-instrs.ensures.value) in
     ap (λ (o : Option Instr). status_at (wants_there code o next)) q ∙ c.is_done.ensures code next
+
+pub instr_at-instr-requires : goal.instr_at-instr-requires
+instr_at-instr-requires g c =
+    let code = plain c.args.code.now in let see = see_of c.args.sight.now c.args.memory.now.levels in
+    let first = whole code.texts c.args.bench.now c.args.memory.now c.args.mails.now in
+    let m = whole code.texts c.turn.bench c.turn.memory c.turn.mails in
+    let xs = c.turn.operands in let calls = entry_calls (copy_of (last_of c.args.memory.now.levels)) in
+    let start = c.turn.invariant.start in let most = most_steps code in
+    let end = execute code see most c.args.from c.args.operands.now first in
+    let within = in_code code see (IsUnchanged first) calls start most c.turn.at xs m end c.turn.invariant.runs in
+    subst (λ (is : List Instr). c.turn.at < length is) (sym c.as_slice-instrs.ensures.value) within
+
+pub act-requires-clause-at : goal.act-requires-clause-at
+act-requires-clause-at g c =
+    let code = plain c.args.code.now in let see = see_of c.args.sight.now c.args.memory.now.levels in
+    let first = whole code.texts c.args.bench.now c.args.memory.now c.args.mails.now in
+    let m = whole code.texts c.turn.bench c.turn.memory c.turn.mails in
+    let xs = c.turn.operands in let calls = entry_calls (copy_of (last_of c.args.memory.now.levels)) in
+    let start = c.turn.invariant.start in let most = most_steps code in
+    let end = execute code see most c.args.from c.args.operands.now first in
+    let within = in_code code see (IsUnchanged first) calls start most c.turn.at xs m end c.turn.invariant.runs in
+    omega (arith, c.requires.length)
+
+pub overflow_cast-result : goal.overflow_cast-result
+overflow_cast-result g c =
+    let code = plain c.args.code.now in let see = see_of c.args.sight.now c.args.memory.now.levels in
+    let first = whole code.texts c.args.bench.now c.args.memory.now c.args.mails.now in
+    let m = whole code.texts c.turn.bench c.turn.memory c.turn.mails in
+    let xs = c.turn.operands in let calls = entry_calls (copy_of (last_of c.args.memory.now.levels)) in
+    let start = c.turn.invariant.start in let most = most_steps code in
+    let end = execute code see most c.args.from c.args.operands.now first in
+    let within = in_code code see (IsUnchanged first) calls start most c.turn.at xs m end c.turn.invariant.runs in
+    omega (arith, c.requires.length)

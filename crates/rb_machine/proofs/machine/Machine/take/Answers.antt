@@ -1,5 +1,5 @@
 -- The parts are at work before the next turn, no line waits, and who was noted to rest does.
-use Rattle.std.proofs.Common.{◌≡◌, ℕ, ◌+◌, ◌≤◌, true, List, length, set, slice_get, refl, ap, sym, ◌∙◌, subst, arith}
+use Rattle.std.proofs.Common.{◌≡◌, ℕ, ◌+◌, ◌≤◌, true, true≢false, List, length, set, slice_get, refl, ap, sym, ◌∙◌, subst, arith}
 use Rattle.rb_world.specs.Kind.{Membership}
 use Rattle.rb_world.specs.Turn.{Told}
 use Rattle.rb_world.proofs.ListFacts.{second_holds}
@@ -49,7 +49,7 @@ invariant_of-self g c =
             (w.is_bare-still.ensures (sym w.still-is ∙ c.if-still.true)),
         second_holds c.turn-left.result.rests (is_still kind) (sym c.leaves_still-quiet.ensures ∙ w.if-quiet.true),
       )
-      | else-quiet w ↦ absurd (cc)
+      | else-quiet w ↦ absurd (true≢false (sym c.if-still.true ∙ w.still-is ∙ w.if-quiet.false))
     ] in
     let rests : List Rest = set inside.resting.rests.items c.args.p (record { since = inside.taken + 1; kind = kind }) in
     let noted : AreNoted code groups (world after) rests inside.resting.changed (inside.taken + 1) =

@@ -1,9 +1,11 @@
-use Rattle.std.proofs.Common.{◌≡◌, ◌+◌, ◌<◌, Bool, false, length, Option, slice_get, ap, sym, ◌∙◌, subst}
+use Rattle.std.proofs.Common.{◌≡◌, ◌+◌, ◌<◌, Bool, false, length, Option, slice_get, ap, sym, ◌∙◌, subst, arith}
+use Rattle.std.proofs.lemmas.Option.{slice_get_within}
 use Rattle.rb_world.specs.World.{status_at}
 use Rattle.rb_base.specs.declared.limits.TheConstants.{MOST_OPEN_LEVELS}
 use Rattle.rb_code.specs.Instructions.Plain.{code as plain}
 use Rattle.rb_code.specs.WordMachine.Turn.{want, wants_there}
 use Rattle.rb_code.specs.declared.instr.Instr.{Instr}
+use Rattle.rb_code.specs.declared.instr.Instr.TheVariants.{Turn}
 use Rattle.rb_proc.specs.Contents.{Contents}
 use Rattle.rb_proc.specs.Entries.{EntersAs, WantsBlock}
 use Rattle.rb_proc.specs.Executable.{RestartsAt}
@@ -11,6 +13,7 @@ use Rattle.rb_proc.specs.Process.{Seen}
 use Rattle.rb_proc.specs.ProcessInside.{seen}
 use Rattle.rb_proc.specs.Statuses.{status_of}
 use Rattle.rb_proc.proofs.Entered.{StandsBefore, entered_so, stands_before}
+use Rattle.rb_proc.proofs.Listed.{block_listed}
 use Rattle.rb_proc.proofs.Landing.{turn_runs}
 use Rattle.rb_proc.proofs.process.Proc.enter.Goals as goal
 
@@ -46,3 +49,16 @@ returns-clause-process g c =
 
 pub returns-clause-waiting : goal.returns-clause-waiting
 returns-clause-waiting g c = ap (λ (r : Contents). r.waiting) c.open.ensures ∙ ap (λ (old : Seen). old.waiting) c.self.view_is
+
+pub facts_of-facts-requires-clause-block : goal.facts_of-facts-requires-clause-block
+facts_of-facts-requires-clause-block g c =
+    let at = c.args.self.now.process.state.at in
+    let stands : StandsBefore (plain c.args.code.now) at c.args.block = stands_before (plain c.args.code.now) c.args.block at c.requires.wants in
+    block_listed c.args.code.now c.args.block stands.there
+
+pub overflow_add-self : goal.overflow_add-self
+overflow_add-self g c =
+    let code = plain c.args.code.now in
+    let restart = subst (λ (old : Seen). RestartsAt code (old.process.state.at + 2)) (sym c.self.view_is) c.requires.restart in
+    let within = slice_get_within code.instrs (c.self.inside.at + 2) Turn restart in
+    omega (arith, c.requires.code.addresses)

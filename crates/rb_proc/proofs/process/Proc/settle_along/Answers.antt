@@ -9,6 +9,7 @@ use Rattle.rb_proc.specs.Process.{Seen, kind_of}
 use Rattle.rb_proc.specs.Sees.{AreSized}
 use Rattle.rb_proc.specs.Work.{named_settling}
 use Rattle.rb_proc.specs.declared.answers.Wanted.{Wanted}
+use Rattle.rb_proc.proofs.Listed.{is_among, process_listed}
 use Rattle.rb_proc.proofs.Stepping.{none_rise, settle_named, settle_safe, settle_seen, settle_stays}
 use Rattle.rb_proc.proofs.process.Proc.settle_along.Goals as goal
 
@@ -61,3 +62,27 @@ returns-clause-work g c =
     c.none-operands.ensures c.clear.ensures.line c.clear.ensures.counters c.none-none.result c.none-none.ensures in
     subst (λ (old : Seen). c.run-ended.new.steps ≤ c.args.steps.now + 3 * named_settling code old.process.state old.process.levels) c.self.view_is
     (omega (arith, same, c.run-ended.ensures.work))
+
+pub new-sight-requires-clause-process : goal.new-sight-requires-clause-process
+new-sight-requires-clause-process g c =
+    let code = plain c.args.code.now in
+    let settles =
+    subst (λ (old : Seen). (groups : List Membership) × SettlesSoundly code groups old.process.state old.process.levels)
+    (sym c.self.view_is) c.requires.settles in
+    process_listed c.args.code.now c.self.inside.process (is_among code.processes c.self.inside.process settles.1.settles.exists)
+
+pub new-sight-requires-clause-places : goal.new-sight-requires-clause-places
+new-sight-requires-clause-places g c =
+    let code = plain c.args.code.now in
+    let settles =
+    subst (λ (old : Seen). (groups : List Membership) × SettlesSoundly code groups old.process.state old.process.levels)
+    (sym c.self.view_is) c.requires.settles in
+    c.requires.code.places c.self.inside.process (is_among code.processes c.self.inside.process settles.1.settles.exists)
+
+pub new-sight-requires-clause-words : goal.new-sight-requires-clause-words
+new-sight-requires-clause-words g c =
+    let code = plain c.args.code.now in
+    let settles =
+    subst (λ (old : Seen). (groups : List Membership) × SettlesSoundly code groups old.process.state old.process.levels)
+    (sym c.self.view_is) c.requires.settles in
+    c.requires.code.words c.self.inside.process (is_among code.processes c.self.inside.process settles.1.settles.exists)

@@ -14,6 +14,7 @@ use Rattle.rb_proc.specs.Statuses.{status_of}
 use Rattle.rb_proc.specs.Work.{named_in_step}
 use Rattle.rb_proc.specs.declared.answers.Outcome.TheVariants as outcome
 use Rattle.rb_proc.specs.declared.answers.Wanted.{Wanted}
+use Rattle.rb_proc.proofs.Listed.{is_among, process_listed, rests_among}
 use Rattle.rb_proc.proofs.Stepping.{accept_comes, executes, step_named, step_safe, step_stays, stop_comes, trap_comes}
 use Rattle.rb_proc.proofs.process.Proc.step.Goals as goal
 
@@ -186,3 +187,36 @@ returns-in-Trap-clause-work g c =
     c.none-operands.ensures c.clear.ensures.line c.clear.ensures.counters in
     subst (λ (old : Seen). c.run.new.steps ≤ c.args.steps.now + 3 * named_in_step code old.process c.args.mails.now c.args.message) c.self.view_is
     (omega (arith, same, c.in-Trap.ensures.work))
+
+pub overflow_add-self-inside : goal.overflow_add-self-inside
+overflow_add-self-inside g c =
+    let code = plain c.args.code.now in
+    let stands = subst
+    (λ (old : Seen). (groups : List Membership) × StandsSoundly code groups old.process.state old.process.levels)
+    (sym c.self.view_is) c.requires.stands in
+    let within = rests_among code.instrs c.self.inside.at stands.1.stands.rests in
+    omega (arith, c.requires.code.addresses)
+
+pub new-sight-requires-clause-process : goal.new-sight-requires-clause-process
+new-sight-requires-clause-process g c =
+    let code = plain c.args.code.now in
+    let stands = subst
+    (λ (old : Seen). (groups : List Membership) × StandsSoundly code groups old.process.state old.process.levels)
+    (sym c.self.view_is) c.requires.stands in
+    process_listed c.args.code.now c.self.inside.process (is_among code.processes c.self.inside.process stands.1.stands.exists)
+
+pub new-sight-requires-clause-places : goal.new-sight-requires-clause-places
+new-sight-requires-clause-places g c =
+    let code = plain c.args.code.now in
+    let stands = subst
+    (λ (old : Seen). (groups : List Membership) × StandsSoundly code groups old.process.state old.process.levels)
+    (sym c.self.view_is) c.requires.stands in
+    c.requires.code.places c.self.inside.process (is_among code.processes c.self.inside.process stands.1.stands.exists)
+
+pub new-sight-requires-clause-words : goal.new-sight-requires-clause-words
+new-sight-requires-clause-words g c =
+    let code = plain c.args.code.now in
+    let stands = subst
+    (λ (old : Seen). (groups : List Membership) × StandsSoundly code groups old.process.state old.process.levels)
+    (sym c.self.view_is) c.requires.stands in
+    c.requires.code.words c.self.inside.process (is_among code.processes c.self.inside.process stands.1.stands.exists)

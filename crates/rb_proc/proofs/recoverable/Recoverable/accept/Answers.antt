@@ -5,7 +5,7 @@ use Rattle.rb_cache.specs.Copies.{accepted}
 use Rattle.rb_proc.specs.Contents.{Contents}
 use Rattle.rb_proc.specs.Inside.{IsTied, contents}
 use Rattle.rb_proc.specs.declared.recoverable.LevelMark.{LevelMark}
-use Rattle.rb_proc.proofs.Tied.{marks_levels, seen_accept, tied_accept}
+use Rattle.rb_proc.proofs.Tied.{marks_levels, marks_open, seen_accept, tied_accept}
 use Rattle.rb_proc.proofs.recoverable.Recoverable.accept.Goals as goal
 
 pub invariant_of-self : goal.invariant_of-self
@@ -40,3 +40,11 @@ returns g c =
     ap (λ (ms : List LevelMark). contents i.clock i.cells.words c.accept.new.self i.calls.items ms i.hold) items
     ∙ seen_accept _ _ _ _ _ _ _ _ _ t c.accept.new.self c.accept.ensures.copies c.accept.ensures.levels (omega arith)
     ∙ ap (λ (r : Contents). record r { touched = accepted r.touched; levels = without_last r.levels }) c.self.view_is
+
+pub accept-requires-clause-some : goal.accept-requires-clause-some
+accept-requires-clause-some g c =
+    let t = c.self.invariant in
+    let opened = marks_open _ _ _ _ _ _ _ _ _ t in
+    let levels = marks_levels _ _ _ _ _ _ _ _ _ t in
+    let same = ap (λ (r : Contents). length r.levels) c.self.view_is in
+    omega (arith, c.requires)

@@ -1,6 +1,7 @@
-use Rattle.std.proofs.Common.{ℕ, ℤ, List, [], ◌++◌, pos, w64, ap, ◌∙◌, rules}
+use Rattle.std.proofs.Common.{ℕ, ℤ, List, [], ◌∷◌, ◌++◌, length, pos, w64, ap, ◌∙◌, arith, rules}
 use Rattle.std.specs.Prelude.{slice_set, replicate}
 use Rattle.std.proofs.Math.Seq.{set-append_seam}
+use Rattle.std.proofs.lemmas.List.{length-append}
 use Rattle.std.proofs.lemmas.Int.{to_z-of_z}
 use Rattle.rb_cell.specs.Store.{Store}
 use Rattle.rb_proc.proofs.recoverable.words.push_word.Goals as goal
@@ -15,3 +16,12 @@ returns-clause-words g c =
     ∙ ap (λ (s : Store). record { words = slice_set s.words c.height-at.result c.args.word; limit = s.limit }) c.push_zeros.ensures.words
     ∙ ap (λ (k : ℕ). record { words = slice_set (ws ++ replicate 1 (pos 0)) k c.args.word; limit = c.args.cells.now.limit }) c.height-at.ensures.words
     ∙ ap (λ (w : List ℤ). record { words = w; limit = c.args.cells.now.limit }) (set-append_seam ws (pos 0) [] c.args.word)
+
+pub write-requires : goal.write-requires
+write-requires g c =
+    omega (
+      arith,
+      c.height-at.ensures.words,
+      ap (λ (s : Store). length s.words) c.push_zeros.ensures.words,
+      length-append c.args.cells.now.words (pos 0 ∷ []),
+    )
