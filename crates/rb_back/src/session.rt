@@ -79,12 +79,13 @@ impl<'a, L: Ledger> Session<'a, L> {
         requires turns { turns < 2 ^ 32 - 1 }
         ensures { IfOk result (λ session. session ≡ opening_course (plain code.now) (memberships (opening nested.now)) turns) }
     {
-        let machine = Machine::load(alloc, code, nested, turns, steps)?;
-        let view = load_view(alloc, code, &machine, steps)?;
         let ranges = store_ranges(alloc, code)?;
         let most_changed = most_changes(code);
         let mut changes = Vec::new(alloc);
         changes.try_reserve(most_changed + FIRST_CHANGES)?;
+        let taken = Vec::with_capacity(alloc, turns as usize)?;
+        let machine = Machine::load(alloc, code, nested, turns, steps)?;
+        let view = load_view(alloc, code, &machine, steps)?;
         Ok(Session {
             machine,
             report: Report {
@@ -92,7 +93,7 @@ impl<'a, L: Ledger> Session<'a, L> {
                 events: ArrayVec::new(),
             },
             view,
-            turns: Vec::with_capacity(alloc, turns as usize)?,
+            turns: taken,
             changes,
             most_changed,
             ranges,

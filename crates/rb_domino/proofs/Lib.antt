@@ -1,4 +1,5 @@
 pub mod Named
+pub mod LinesAdded
 pub mod ReadLines
 pub mod Stacks
 pub mod GivenUp

@@ -54,7 +54,6 @@ pub fn analyse<L: Ledger>(
     Ok(Analysis { drops, line })
 }
 
-#[tactic(auto, using(crate::proofs::Rounds::failure_known, crate::proofs::Rounds::falls_first, crate::proofs::Rounds::falls_nowhere))]
 /// The process that failed gives up `now`, and then processes fall by messages.
 fn fall_all<L: Ledger>(
     board: &mut Board,
@@ -74,11 +73,9 @@ fn fall_all<L: Ledger>(
         return Ok(());
     };
     board.fall(history, fall, drops, steps)?;
-    fall_by_messages(board, history, lines.len(), drops, steps)?;
-    Ok(())
+    fall_by_messages(board, history, lines.len(), drops, steps)
 }
 
-#[tactic(auto, using(crate::proofs::Rounds::falls_on_none, crate::proofs::Rounds::falls_on_more, crate::proofs::Rounds::falls_on_none_left, crate::proofs::Rounds::falls_on_all))]
 /// While a message breaks the line, the first such makes its receiver fall; so often at most.
 fn fall_by_messages<L: Ledger>(
     board: &mut Board,

@@ -109,8 +109,7 @@ impl Board {
             self.takes.as_slice(),
             &mut self.pending,
             steps,
-        )?;
-        Ok(())
+        )
     }
 
     /// The number of the state in which each process stands.

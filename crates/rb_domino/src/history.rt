@@ -1,8 +1,8 @@
 //! A history that is read whole for its faults: its processes, its messages and its lines.
 
-ghost use Rattle.std.specs.Prelude.{◌≡◌, ◌≤◌, length, Ok, IfOk, MatchResult};
-ghost use Rattle.rb_domino.specs.History.{history_of, IsWhole};
-ghost use Rattle.rb_domino.specs.Reading.{IsRefusedFor};
+ghost use Rattle.std.specs.Prelude.{◌≡◌, ◌≤◌, length, Ok, IfOk, MatchResult, OnOk};
+ghost use Rattle.rb_domino.specs.History.{history_of, no_story, IsWhole};
+ghost use Rattle.rb_domino.specs.Reading.{IsRefusedFor, Stands, story_of};
 
 use crate::line::{Line, Message};
 use crate::reader::{LineRefusal, Reader};
@@ -39,7 +39,6 @@ impl Model for History {
 }
 
 impl History {
-    #[tactic(auto, using(crate::proofs::ReadLines::read_more, crate::proofs::ReadLines::read_fault, crate::proofs::ReadLines::read_end))]
     /// Reads a whole history, and answers its first fault where it has one.
     pub fn read(alloc: Global, text: &[u8]) -> Result<History, HistoryRefusal>
         requires { length text.now ≤ MOST_BYTES }
@@ -48,21 +47,7 @@ impl History {
         ensures whole { IfOk result (λ history. IsWhole history) }
     {
         let mut reader = Reader::new(alloc);
-        let mut at = 1;
-        let mut rest = text;
-        while !rest.is_empty() {
-            let (line, after) = first_line(rest);
-            match reader.read_line(alloc, line) {
-                Ok(()) => {}
-                Err(LineRefusal::Fault(name)) => return Err(fault(name, at)),
-                Err(LineRefusal::Memory) => return Err(HistoryRefusal::Memory),
-            }
-            at += 1;
-            rest = after;
-        }
-        if !reader.has_failed() {
-            return Err(fault(FaultName::H5, at));
-        }
+        read_lines(alloc, text, &mut reader)?;
         let (processes, messages, lines) = reader.into_parts();
         Ok(History {
             processes,
@@ -91,6 +76,39 @@ impl History {
         ensures whole { IsWhole self.now }
     {
         self.lines.as_slice()
+    }
+}
+
+#[tactic(auto, using(crate::proofs::ReadLines::read_more, crate::proofs::ReadLines::read_fault, crate::proofs::ReadLines::read_end))]
+// Reads the lines of a whole history, of which none was read yet, or answers their first fault.
+fn read_lines<'a>(
+    alloc: Global,
+    text: &'a [u8],
+    reader: &mut Reader<'a>,
+) -> Result<(), HistoryRefusal>
+    requires empty { story_of reader.old ≡ no_story }
+    requires stands { Stands reader.old }
+    requires short { length text.now ≤ MOST_BYTES }
+    ensures told { let told = history_of text.now in
+        MatchResult result (λ _. told ≡ Ok (story_of reader.new)) (λ refusal. IsRefusedFor told refusal) }
+    ensures whole { OnOk result (IsWhole (story_of reader.new)) }
+{
+    let mut at = 1;
+    let mut rest = text;
+    while !rest.is_empty() {
+        let (line, after) = first_line(rest);
+        match reader.read_line(alloc, line) {
+            Ok(()) => {}
+            Err(LineRefusal::Fault(name)) => return Err(fault(name, at)),
+            Err(LineRefusal::Memory) => return Err(HistoryRefusal::Memory),
+        }
+        at += 1;
+        rest = after;
+    }
+    if reader.has_failed() {
+        Ok(())
+    } else {
+        Err(fault(FaultName::H5, at))
     }
 }
 

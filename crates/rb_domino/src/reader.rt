@@ -1,8 +1,8 @@
 //! What was read of a history so far, with its names found by two maps.
 
-ghost use Rattle.std.specs.Prelude.{◌≡◌, ◌+◌, ◌-◌, ◌^◌, ◌<◌, ◌≤◌, ◌∷◌, [], true, false, vec_len, Some, None, MatchResult};
+ghost use Rattle.std.specs.Prelude.{◌≡◌, ◌+◌, ◌-◌, ◌^◌, ◌<◌, ◌≤◌, ◌∷◌, ◌++◌, [], true, false, vec_len, Some, None, Ok, MatchResult, OnOk};
 ghost use Rattle.rb_sched.specs.Schedule.{words_of};
-ghost use Rattle.rb_domino.specs.History.{no_story, is_short_name, has_failed, process_of, message_of, read_words, read_process, read_point, read_send, read_take, read_fail, before_failure};
+ghost use Rattle.rb_domino.specs.History.{no_story, is_short_name, has_failed, process_of, message_of, read_words, read_process, read_point, read_send, read_take, read_fail, before_failure, sends};
 ghost use Rattle.rb_domino.specs.Reading.{Stands, Takes, story_of};
 
 use crate::line::{Line, Message};
@@ -98,13 +98,13 @@ impl<'a> Reader<'a> {
         if !is_short_name(name) {
             return Err(LineRefusal::Fault(FaultName::H1));
         }
-        if b"process".as_slice() == verb {
+        if verb == b"process".as_slice() {
             self.read_process(alloc, name)
-        } else if b"point".as_slice() == verb {
+        } else if verb == b"point".as_slice() {
             self.read_point(name)
-        } else if b"take".as_slice() == verb {
+        } else if verb == b"take".as_slice() {
             self.read_take(name)
-        } else if b"fail".as_slice() == verb {
+        } else if verb == b"fail".as_slice() {
             self.read_fail(name)
         } else {
             Err(LineRefusal::Fault(FaultName::H1))
@@ -124,7 +124,7 @@ impl<'a> Reader<'a> {
         ensures takes { Takes (read_words (story_of self.old) (verb.now ∷ message.now ∷ from.now ∷ to.now ∷ [])) self.new result }
         ensures grows { vec_len self.new.lines ≤ vec_len self.old.lines + 1 }
     {
-        if b"send".as_slice() != verb
+        if verb != b"send".as_slice()
             || !is_short_name(message)
             || !is_short_name(from)
             || !is_short_name(to)
@@ -147,8 +147,7 @@ impl<'a> Reader<'a> {
         let number = self.processes.len() as u32;
         self.process_numbers.insert(name, number)?;
         self.processes.push(Text::from_slice(alloc, name)?)?;
-        self.lines.push(Line::Begin(number))?;
-        Ok(())
+        add_line(&mut self.lines, Line::Begin(number))
     }
 
     fn read_point(&mut self, name: &[u8]) -> Result<(), LineRefusal>
@@ -159,8 +158,7 @@ impl<'a> Reader<'a> {
     {
         let process = self.known_process(name)?;
         self.before_failure()?;
-        self.lines.push(Line::Point(process))?;
-        Ok(())
+        add_line(&mut self.lines, Line::Point(process))
     }
 
     fn read_send(
@@ -181,6 +179,26 @@ impl<'a> Reader<'a> {
             return Err(LineRefusal::Fault(FaultName::H3));
         }
         self.before_failure()?;
+        self.add_message(alloc, name, sender, receiver)
+    }
+
+    // A message that has no number yet, and the line of its `send`.
+    fn add_message(
+        &mut self,
+        alloc: Global,
+        name: &'a [u8],
+        sender: u32,
+        receiver: u32,
+    ) -> Result<(), LineRefusal>
+        requires stands { Stands self.old }
+        requires few { vec_len self.old.lines < 2 ^ 32 - 1 }
+        requires quiet { has_failed (story_of self.old) ≡ false }
+        requires unknown { message_of (story_of self.old) name.now ≡ None }
+        requires sender { sender < vec_len self.old.processes }
+        requires receiver { receiver < vec_len self.old.processes }
+        ensures takes { Takes (Ok (sends (story_of self.old) name.now sender receiver)) self.new result }
+        ensures grows { vec_len self.new.lines ≤ vec_len self.old.lines + 1 }
+    {
         let number = self.messages.len() as u32;
         let sent = self.lines.len() as u32;
         self.message_numbers.insert(name, number)?;
@@ -192,8 +210,7 @@ impl<'a> Reader<'a> {
             sent,
         })?;
         self.taken.push(false)?;
-        self.lines.push(Line::Send(number))?;
-        Ok(())
+        add_line(&mut self.lines, Line::Send(number))
     }
 
     fn read_take(&mut self, name: &[u8]) -> Result<(), LineRefusal>
@@ -210,8 +227,7 @@ impl<'a> Reader<'a> {
         }
         self.before_failure()?;
         self.taken[message as usize] = true;
-        self.lines.push(Line::Take(message))?;
-        Ok(())
+        add_line(&mut self.lines, Line::Take(message))
     }
 
     fn read_fail(&mut self, name: &[u8]) -> Result<(), LineRefusal>
@@ -223,8 +239,7 @@ impl<'a> Reader<'a> {
         let process = self.known_process(name)?;
         self.before_failure()?;
         self.failed = true;
-        self.lines.push(Line::Fail(process))?;
-        Ok(())
+        add_line(&mut self.lines, Line::Fail(process))
     }
 
     // The number of the process of this name.
@@ -265,6 +280,16 @@ impl<'a> Reader<'a> {
             Ok(())
         }
     }
+}
+
+// A line more.
+fn add_line(lines: &mut Vec<Line>, line: Line) -> Result<(), LineRefusal>
+    ensures added { MatchResult result (λ _. lines.new.items ≡ lines.old.items ++ line ∷ []) (λ refusal. refusal ≡ LineRefusal.Memory) }
+    ensures len { OnOk result (vec_len lines.new ≡ vec_len lines.old + 1) }
+    ensures grows { vec_len lines.new ≤ vec_len lines.old + 1 }
+{
+    lines.push(line)?;
+    Ok(())
 }
 
 /// Whether a word is a name, and not too long.

@@ -55,8 +55,7 @@ fn add_to(states: &mut Vec<Vec<State>>, process: u32, at: u32) -> Result<(), Mem
     requires short { length (list_at (stacks states.old.items) process) < 2 ^ 32 }
     ensures { OnOk result (stacks states.new.items ≡ with_point at process (stacks states.old.items)) }
 {
-    add_point(&mut states[process as usize], at)?;
-    Ok(())
+    add_point(&mut states[process as usize], at)
 }
 
 fn add_point(states: &mut Vec<State>, place: u32) -> Result<(), Memory>

@@ -1,12 +1,31 @@
-use Rattle.std.proofs.Common.{◌≡◌, List, ℤ, get_or, slice_set, of_z, to_z, w64, ap, sym, ◌∙◌, rules, subst}
+use Rattle.std.proofs.Common.{◌≡◌, List, ℤ, get_or, slice_set, of_z, to_z, w64, ap, sym, ◌∙◌, rules, subst, arith}
 use Rattle.std.proofs.lemmas.Int.{to_z-of_z}
 use Rattle.rb_base.specs.Lines.{belonging}
 use Rattle.rb_cell.specs.Store.{Store}
 use Rattle.rb_back.specs.Noting.{Notes}
 use Rattle.rb_back.specs.Picture.{Picture, picture, with_word}
-use Rattle.rb_back.proofs.Noted.{word_noted, word_same}
-use Rattle.rb_back.proofs.Pictures.{cells_with_word, within_cells, word_in}
+use Rattle.rb_back.proofs.Noted.{notes_none, word_noted, word_same}
+use Rattle.rb_back.proofs.Pictures.{cells_long, cells_with_word, within_cells, word_in}
 use Rattle.rb_back.proofs.noting.note_word.Goals as goal
+
+pub read-before-requires : goal.read-before-requires
+read-before-requires g c =
+    omega (
+      arith,
+      cells_long c.args.view.now.words.items c.args.process c.index.result.now c.requires.there c.index.ensures,
+      c.requires.at,
+    )
+
+pub write-requires : goal.write-requires
+write-requires g c =
+    omega (
+      arith,
+      cells_long c.args.view.now.words.items c.args.process c.index_mut.result.now c.requires.there c.index_mut.ensures.value,
+      c.requires.at,
+    )
+
+pub returns-else-before-now-clause-noted : goal.returns-else-before-now-clause-noted
+returns-else-before-now-clause-noted g c target wanted = notes_none target c.args.changes.now.items (picture c.args.view.now)
 
 pub returns-then-before-now-clause-view : goal.returns-then-before-now-clause-view
 returns-then-before-now-clause-view g c =

@@ -1,10 +1,16 @@
-use Rattle.std.proofs.Common.{◌≡◌, ℕ, ◌≤◌, ◌<◌, [], List, length, vec_len, get_or, replicate, refl, sym, subst, arith}
+use Rattle.std.proofs.Common.{◌≡◌, ℕ, ◌≤◌, ◌<◌, [], List, Vec, Global, length, vec_len, get_or, replicate, refl, sym, ◌∙◌, subst, arith}
+use Rattle.std.proofs.lemmas.List.{length-map}
 use Rattle.std.proofs.lemmas.Grind.{common_steps}
 use Rattle.rb_domino.specs.declared.line.Line.{Line}
 use Rattle.rb_domino.specs.declared.line.Line.TheVariants.{Begin}
-use Rattle.rb_domino.specs.Board.{PointsKnown, list_at, stacks}
+use Rattle.rb_domino.specs.declared.state.State.{State}
+use Rattle.rb_domino.specs.Board.{PointsKnown, list_at, stack, stacks}
 use Rattle.rb_domino.proofs.States.{Stacking, first_known, stacking_none, stacking_step, topped}
 use Rattle.rb_domino.proofs.tables.all_states.Goals as goal
+
+-- there are as many stacks as vectors
+stacks_long : (vectors : Vec (Vec State Global) Global) (n : ℕ) → length (stacks vectors.items) ≡ n → vec_len vectors ≡ n
+stacks_long vectors n long = vectors.ok.0 ∙ sym (length-map vectors.items (λ one. stack one.items)) ∙ long
 
 pub loop-rest-init : goal.loop-rest-init
 loop-rest-init g c =
@@ -28,14 +34,15 @@ loop-rest-preserved g c =
 pub returns-clause-states : goal.returns-clause-states
 returns-clause-states g c =
     let none : c.loop-rest.rest.now ≡ [] = grind (arith, common_steps) in
-    let all : vec_len c.loop-rest.states ≡ length (stacks c.loop-rest.states.items) = grind (arith, common_steps) in
+    let all : vec_len c.loop-rest.states ≡ length (stacks c.loop-rest.states.items) = stacks_long c.loop-rest.states _ refl in
     topped c.args.history.now c.loop-rest.at (vec_len c.loop-rest.states) c.loop-rest.rest.now
     (stacks c.loop-rest.states.items) _ c.loop-rest.invariant.stacking none all c.in_ok-add_now.ensures.topped
 
 pub note_line-requires : goal.note_line-requires
 note_line-requires g c =
     let some : 0 < length c.loop-rest.rest.now = omega arith in
-    let counted : length c.args.history.now.processes ≡ vec_len c.loop-rest.states = grind (arith, common_steps) in
+    let counted : length c.args.history.now.processes ≡ vec_len c.loop-rest.states =
+    sym (stacks_long c.loop-rest.states _ c.loop-rest.invariant.stacking.counted) in
     record {
       known = subst (λ (n : ℕ). PointsKnown n (get_or c.loop-rest.rest.now 0 (Begin 0))) counted
           (first_known c.args.history.now c.loop-rest.at c.loop-rest.rest.now (stacks c.loop-rest.states.items) some c.loop-rest.invariant.stacking);
@@ -45,10 +52,10 @@ note_line-requires g c =
 
 pub returns-in_err-add_now-clause-work : goal.returns-in_err-add_now-clause-work
 returns-in_err-add_now-clause-work g c =
-    let counted : vec_len c.loop-rest.states ≡ length c.args.history.now.processes = grind (arith, common_steps) in
+    let counted : vec_len c.loop-rest.states ≡ length c.args.history.now.processes = stacks_long c.loop-rest.states _ c.loop-rest.invariant.stacking.counted in
     omega (arith, c.add_now.ensures.work, c.loop-rest.invariant.work, counted)
 
 pub returns-clause-work : goal.returns-clause-work
 returns-clause-work g c =
-    let counted : vec_len c.loop-rest.states ≡ length c.args.history.now.processes = grind (arith, common_steps) in
+    let counted : vec_len c.loop-rest.states ≡ length c.args.history.now.processes = stacks_long c.loop-rest.states _ c.loop-rest.invariant.stacking.counted in
     omega (arith, c.add_now.ensures.work, c.loop-rest.invariant.work, counted)

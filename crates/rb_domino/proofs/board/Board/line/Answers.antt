@@ -1,6 +1,7 @@
-use Rattle.std.proofs.Common.{◌≡◌, ℕ, zero, suc, ◌+◌, ◌<◌, List, [], ◌∷◌, ◌++◌, length, slice_index_or, take, Vec, add-one, ap, arith, sym, ◌∙◌}
+use Rattle.std.proofs.Common.{◌≡◌, ℕ, zero, suc, ◌+◌, ◌<◌, ◌≤◌, List, [], ◌∷◌, ◌++◌, length, slice_index_or, take, Vec, add-one, ap, arith, sym, ◌∙◌}
+use Rattle.std.proofs.lemmas.List.{length-map, take_all}
 use Rattle.std.specs.declared.alloc.Global.{Global}
-use Rattle.rb_domino.specs.Board.{stack, stacks}
+use Rattle.rb_domino.specs.Board.{left_on, stack, stacks}
 use Rattle.rb_domino.specs.Recovery.{latest, line_of}
 use Rattle.rb_domino.specs.declared.state.State.{State}
 use Rattle.rb_domino.proofs.board.Board.line.Goals as goal
@@ -23,6 +24,9 @@ line_added vectors i vector states state line added within is same latest_is so_
     ∙ sym (line_more vectors i vector within is)
     ∙ ap (λ k. take k (line_of (stacks vectors))) (sym (add-one i))
 
+pub loop-states-init : goal.loop-states-init
+loop-states-init g c = record { line = c.in_ok-line.ensures.items; work = omega arith }
+
 pub loop-states-preserved : goal.loop-states-preserved
 loop-states-preserved g c =
     let i = c.loop-states.states-index in
@@ -35,3 +39,21 @@ loop-states-preserved g c =
           within is c.as_slice.ensures.value c.latest.ensures c.loop-states.invariant.line c.in_ok-push.ensures.items;
       work = omega (arith, c.tick.ensures, c.loop-states.invariant.work);
     }
+
+pub returns-clause-line : goal.returns-clause-line
+returns-clause-line g c =
+    let whole : length (line_of (left_on c.args.self.now)) ≤ c.loop-states.states-index =
+    omega (
+      arith,
+      length-map (left_on c.args.self.now) (λ states. (latest states).number),
+      length-map c.args.self.now.states.items (λ one. stack one.items),
+      c.deref-states-items.ensures.len,
+      c.args.self.now.states.ok.0,
+    ) in
+    c.loop-states.invariant.line ∙ take_all _ _ whole
+
+pub returns-in_err-push-clause-work : goal.returns-in_err-push-clause-work
+returns-in_err-push-clause-work g c = omega (arith, c.loop-states.invariant.work, c.deref-states-items.ensures.len)
+
+pub returns-clause-work : goal.returns-clause-work
+returns-clause-work g c = omega (arith, c.loop-states.invariant.work, c.deref-states-items.ensures.len)

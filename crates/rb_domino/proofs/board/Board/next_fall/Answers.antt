@@ -1,4 +1,5 @@
-use Rattle.std.proofs.Common.{◌≡◌, ℕ, ◌≤◌, ◌<◌, List, [], Vec, Global, get_or, Some, ap, sym, ◌∙◌, subst, arith}
+use Rattle.std.proofs.Common.{◌≡◌, ℕ, ◌+◌, ◌≤◌, ◌<◌, Bool, true, length, btree_set_len, List, [], Vec, Global, get_or, Some, refl, ap, sym, ◌∙◌, subst, arith}
+use Rattle.std.specs.Bool.{if◌then◌else◌}
 use Rattle.std.proofs.lemmas.Option.{get_or_from_slice_get}
 use Rattle.std.proofs.lemmas.Grind.{common_steps}
 use Rattle.rb_domino.specs.declared.state.State.{State}
@@ -6,12 +7,21 @@ use Rattle.rb_domino.specs.declared.line.Message.{Message}
 use Rattle.rb_domino.specs.declared.line.Line.{Line}
 use Rattle.rb_domino.specs.declared.line.Line.TheVariants.{Begin, Take}
 use Rattle.rb_domino.specs.Recovery.{first_fall, fall_by, stands, message_at}
-use Rattle.rb_domino.specs.History.{IsTakenAt}
-use Rattle.rb_domino.specs.Board.{AreSplit, is_in, left_on, stacks}
+use Rattle.rb_domino.specs.History.{IsTakenAt, Story}
+use Rattle.rb_domino.specs.Board.{AreSplit, IsOrderly, is_in, left_on, stacks}
 use Rattle.rb_domino.proofs.Pending.{is_removed}
+use Rattle.rb_domino.proofs.Opening.{message_between, message_known}
 use Rattle.rb_domino.proofs.FirstFall.{IsLeast, least_first, line_taken, message_read, pending_first, pending_none, split_without}
 use Rattle.rb_domino.proofs.board.Board.next_fall.Goals as goal
 use Rattle.rb_domino.proofs.board.Board.next_fall.Goals.{in-Take+else-taken-place, in_default-lines}
+
+-- the receiver of a message that is taken is known
+receiver_known : (story : Story) (messages : List Message) (taken m : ℕ) (message : Message) → messages ≡ story.messages → IsOrderly story
+    → IsTakenAt story m taken → message ≡ get_or messages m message → (get_or messages m message).receiver < length story.processes
+receiver_known story messages taken m message same orderly is read =
+    subst (λ (one : Message). one.receiver < length story.processes)
+    (sym (message_read story messages taken m message same orderly is read) ∙ read)
+    (message_between story m orderly (message_known story m taken orderly is)).receiver
 
 pub returns-then-taken-place-clause-fall : goal.returns-then-taken-place-clause-fall
 returns-then-taken-place-clause-fall g c =
@@ -92,3 +102,41 @@ returns-clause-fall g c =
     let same : left_on c.args.self.now ≡ left =
     ap (λ (states : Vec (Vec State Global) Global). stacks states.items) (sym c.loop-taken.invariant.states) in
     sym (pending_none story left (stacks c.loop-taken.self.sends.items) c.loop-taken.self.pending holds.split none) ∙ ap (first_fall story) (sym same)
+
+pub loop-taken-init : goal.loop-taken-init
+loop-taken-init g c = record { states = refl; holds = c.requires; work = omega arith }
+
+pub place-requires : goal.place-requires
+place-requires g c =
+    let story = c.args.history.now in
+    let holds = c.loop-taken.invariant.holds in
+    let taken = c.in-Some.taken in
+    let m = c.in-Take.m in
+    let least : IsLeast c.loop-taken.self.pending taken =
+    least_first c.loop-taken.self.pending c.first.result taken c.in-Some.ensures c.first.ensures.member c.first.ensures.least in
+    let is : IsTakenAt story m taken =
+    line_taken story (left_on c.loop-taken.self) c.lines.result.now taken m (Begin 0) c.lines.ensures.lines (holds.split.sound taken least.here) c.in-Take.is in
+    let known = receiver_known story c.messages.result.now taken m c.index-messages-m.result c.messages.ensures holds.orderly is c.index-messages-m.is in
+    omega (arith, known, holds.all_states)
+
+pub returns-then-taken-place-clause-known : goal.returns-then-taken-place-clause-known
+returns-then-taken-place-clause-known g c =
+    let story = c.args.history.now in
+    let holds = c.loop-taken.invariant.holds in
+    let taken = c.in-Some.taken in
+    let m = c.in-Take.m in
+    let least : IsLeast c.loop-taken.self.pending taken =
+    least_first c.loop-taken.self.pending c.first.result taken c.in-Some.ensures c.first.ensures.member c.first.ensures.least in
+    let is : IsTakenAt story m taken =
+    line_taken story (left_on c.loop-taken.self) c.lines.result.now taken m (Begin 0) c.lines.ensures.lines (holds.split.sound taken least.here) c.in-Take.is in
+    receiver_known story c.messages.result.now taken m c.index-messages-m.result c.messages.ensures holds.orderly is c.index-messages-m.is
+
+pub loop-taken-smaller : goal.loop-taken-smaller
+loop-taken-smaller g c =
+    let pending = c.loop-taken.self.pending in
+    let least : IsLeast pending c.in-Some.taken =
+    least_first pending c.first.result c.in-Some.taken c.in-Some.ensures c.first.ensures.member c.first.ensures.least in
+    let there : c.remove.result ≡ true = c.remove.ensures.test ∙ least.here in
+    let fewer : btree_set_len c.remove.new.self + 1 ≡ btree_set_len pending =
+    subst (λ (b : Bool). btree_set_len c.remove.new.self + (if b then 1 else 0) ≡ btree_set_len pending) there c.remove.ensures.len in
+    omega (arith, fewer)

@@ -1,30 +1,27 @@
-use Rattle.std.proofs.Common.{◌≡◌, ◌∷◌, ◌++◌, [], false, Some, subst, arith}
-use Rattle.std.proofs.lemmas.Grind.{common_steps}
-use Rattle.rb_base.specs.Naming.{first_named}
+use Rattle.std.proofs.Common.{◌≡◌, false, true, Some, Ok, refl, ap, sym, ◌∙◌}
+use Rattle.std.specs.List.{list_any}
 use Rattle.rb_domino.specs.declared.line.Line.TheVariants.{Fail}
-use Rattle.rb_domino.specs.History.{IsHistory, has_failed, failed}
+use Rattle.rb_base.specs.declared.fault.FaultName.TheVariants.{H2}
+use Rattle.rb_domino.specs.History.{failed, has_failed, if_known, is_failure, process_of, with_line}
 use Rattle.rb_domino.specs.Reading.{story_of}
-use Rattle.rb_domino.proofs.Named.{any_still, any_now, named_below}
+use Rattle.rb_domino.proofs.Named.{any_now, named_below}
+use Rattle.rb_domino.proofs.LinesAdded.{stands_line, takes_line, told_quiet, untaken_still}
 use Rattle.rb_domino.proofs.reader.Reader.read_fail.Goals as goal
 
 pub returns-clause-takes : goal.returns-clause-takes
 returns-clause-takes c =
     let old = c.args.self.now in
-    let name = c.args.name.now in
-    let quiet : has_failed (story_of old) ≡ false = grind (arith, common_steps) in
+    let story = story_of old in
+    let stands = c.requires.stands in
     let p = c.in_ok-process.process in
-    let known : first_named old.processes.items name ≡ Some p = grind (arith, common_steps) in
-    let lines : old.lines.items ++ Fail p ∷ [] ≡ c.push.new.self.items = grind (arith, common_steps) in (
-      grind (arith, common_steps),
-      record {
-        history = subst IsHistory (λ i. record { processes = old.processes.items; messages = old.messages.items; lines = lines i })
-            (failed p c.requires.stands.history quiet (named_below _ _ p known));
-        processes = c.requires.stands.processes;
-        messages = c.requires.stands.messages;
-        marked = λ m. grind (arith, common_steps, any_still, c.requires.stands.marked m);
-        marks = grind (arith, common_steps);
-        failed = grind (arith, common_steps, any_still, any_now);
-        few_processes = grind (arith, common_steps);
-        few_messages = grind (arith, common_steps);
-      },
-    )
+    let known : process_of story c.args.name.now ≡ Some p = c.in_ok-process.ensures in
+    let quiet : has_failed story ≡ false = c.in_ok-before_failure.ensures in
+    let lines = c.add_line.new.lines in
+    takes_line _ (record old { lines = lines; failed = true }) _ _ c.add_line.result c.add_line.ensures.added c.add_line.ensures.len
+    (λ more longer. (
+      told_quiet story (with_line story (Fail p)) _ _ quiet (ap (λ o. if_known H2 o (λ q. Ok (with_line story (Fail q)))) known)
+          (λ i. record { processes = story.processes; messages = story.messages; lines = sym more i }),
+      stands_line old lines old.taken true (Fail p) stands (failed p stands.history quiet (named_below _ _ p known)) more longer
+          (λ m. untaken_still old (Fail p) lines.items m stands more refl) refl
+          (sym (ap (list_any is_failure) more ∙ any_now is_failure old.lines.items (Fail p) refl)),
+    ))

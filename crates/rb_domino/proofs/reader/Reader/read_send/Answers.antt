@@ -1,40 +1,42 @@
-use Rattle.std.proofs.Common.{◌≡◌, ℕ, ◌∷◌, ◌++◌, [], List, false, None, Some, length, map, subst, arith}
-use Rattle.std.proofs.lemmas.Grind.{common_steps}
-use Rattle.rb_base.specs.Naming.{first_named}
-use Rattle.rb_domino.specs.declared.line.Line.TheVariants.{Send}
-use Rattle.rb_domino.specs.History.{IsHistory, sent_by, has_failed, sent}
-use Rattle.rb_domino.specs.Reading.{FindsNames, story_of}
-use Rattle.rb_domino.proofs.Named.{finds_added, any_still, any_now, names_added, marks_added, named_below}
+use Rattle.std.proofs.Common.{◌≡◌, ◌<◌, length, false, None, Some, Ok, Err, cond, refl, ap, sym, ◌∙◌, subst, arith}
+use Rattle.std.specs.Option.{is_some}
+use Rattle.rb_base.specs.declared.fault.FaultName.TheVariants.{H2, H3}
+use Rattle.rb_domino.specs.History.{before_failure, has_failed, if_known, message_of, process_of, read_send, sends}
+use Rattle.rb_domino.specs.Reading.{Takes, story_of}
+use Rattle.rb_domino.proofs.Named.{named_below}
+use Rattle.rb_domino.proofs.LinesAdded.{none_known, told_quiet}
 use Rattle.rb_domino.proofs.reader.Reader.read_send.Goals as goal
+
+pub add_message-requires-clause-unknown : goal.add_message-requires-clause-unknown
+add_message-requires-clause-unknown c =
+    sym c.message.ensures ∙ none_known c.message.result (sym c.is_some.ensures ∙ c.if-is_some.false)
+
+pub add_message-requires-clause-sender : goal.add_message-requires-clause-sender
+add_message-requires-clause-sender c =
+    let below : c.in_ok-sender.sender < length c.args.self.now.processes.items = named_below _ _ c.in_ok-sender.sender c.in_ok-sender.ensures in
+    omega (arith, below, c.args.self.now.processes.ok.0)
+
+pub add_message-requires-clause-receiver : goal.add_message-requires-clause-receiver
+add_message-requires-clause-receiver c =
+    let below : c.in_ok-receiver.receiver < length c.args.self.now.processes.items =
+    named_below _ _ c.in_ok-receiver.receiver c.in_ok-receiver.ensures in
+    omega (arith, below, c.args.self.now.processes.ok.0)
 
 pub returns-clause-takes : goal.returns-clause-takes
 returns-clause-takes c =
-    let old = c.args.self.now in
+    let story = story_of c.args.self.now in
     let name = c.args.name.now in
-    let quiet : has_failed (story_of old) ≡ false = grind (arith, common_steps) in
-    let names : List (List ℕ) = map (λ m. m.name) old.messages.items in
-    let unknown : first_named names name ≡ None = grind (arith, common_steps) in
-    let next : c.len-number.result ≡ length names = grind (arith, common_steps) in
-    let longer : names ++ name ∷ [] ≡ map (λ m. m.name) c.push.new.self.items = grind (arith, common_steps, names_added) in
-    let found : FindsNames c.insert.new.self (names ++ name ∷ []) =
-    finds_added old.message_numbers c.insert.new.self c.args.name names c.len-number.result
-    c.requires.stands.messages unknown next c.in_ok-insert.ensures.updates.0 in
+    let to = c.args.to.now in
     let p = c.in_ok-sender.sender in
     let q = c.in_ok-receiver.receiver in
-    let messages : old.messages.items ++ sent_by (story_of old) name p q ∷ [] ≡ c.push.new.self.items = grind (arith, common_steps) in
-    let lines : old.lines.items ++ Send (length old.messages.items) ∷ [] ≡ c.push-3.new.self.items = grind (arith, common_steps) in
-    let from : first_named old.processes.items c.args.from.now ≡ Some p = grind (arith, common_steps) in
-    let to : first_named old.processes.items c.args.to.now ≡ Some q = grind (arith, common_steps) in (
-      grind (arith, common_steps),
-      record {
-        history = subst IsHistory (λ i. record { processes = old.processes.items; messages = messages i; lines = lines i })
-            (sent name p q c.requires.stands.history quiet unknown (named_below _ _ p from) (named_below _ _ q to));
-        processes = c.requires.stands.processes;
-        messages = subst (FindsNames c.insert.new.self) longer found;
-        marked = λ m. grind (arith, common_steps, any_still, marks_added, c.requires.stands.marked m);
-        marks = grind (arith, common_steps);
-        failed = grind (arith, common_steps, any_still, any_now);
-        few_processes = grind (arith, common_steps);
-        few_messages = grind (arith, common_steps);
-      },
-    )
+    let quiet : has_failed story ≡ false = c.in_ok-before_failure.ensures in
+    let unknown : message_of story name ≡ None =
+    sym c.message.ensures ∙ none_known c.message.result (sym c.is_some.ensures ∙ c.if-is_some.false) in
+    let known : process_of story c.args.from.now ≡ Some p = c.in_ok-sender.ensures in
+    let known_to : process_of story to ≡ Some q = c.in_ok-receiver.ensures in
+    let told : before_failure story (read_send story name c.args.from.now to) ≡ Ok (sends story name p q) =
+    told_quiet story (sends story name p q) _ _ quiet
+    (ap (λ o. if_known H2 o (λ p. if_known H2 (process_of story to) (λ q. cond (is_some (message_of story name)) (Err H3) (Ok (sends story name p q))))) known
+    ∙ ap (λ o. if_known H2 o (λ q. cond (is_some (message_of story name)) (Err H3) (Ok (sends story name p q)))) known_to
+    ∙ ap (λ o. cond (is_some o) (Err H3) (Ok (sends story name p q))) unknown) refl in
+    subst (λ t. Takes t c.add_message.new.self c.add_message.result) (sym told) c.add_message.ensures.takes
