@@ -51,11 +51,10 @@ pub fn words_of(variables: &[Var<'_>]) -> Result<u32, Memory>
 pub fn put_frame(draft: &mut Draft, words: u32) -> Result<(), Memory>
     ensures { OnOk result (Adds (FrameCode words) (output draft.old) (output draft.new)) }
 {
-    if words != 0 {
-        put(draft, Instr::Frame(words))?;
+    if words == 0 {
         return Ok(());
     }
-    Ok(())
+    put(draft, Instr::Frame(words))
 }
 
 /// Drops them.
@@ -63,9 +62,8 @@ pub fn put_frame(draft: &mut Draft, words: u32) -> Result<(), Memory>
 pub fn put_drop(draft: &mut Draft, words: u32) -> Result<(), Memory>
     ensures { OnOk result (Adds (DropCode words) (output draft.old) (output draft.new)) }
 {
-    if words != 0 {
-        put(draft, Instr::Drop(words))?;
+    if words == 0 {
         return Ok(());
     }
-    Ok(())
+    put(draft, Instr::Drop(words))
 }

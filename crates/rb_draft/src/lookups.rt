@@ -47,10 +47,7 @@ pub fn counter_of(slots: &[Slot], id: u32) -> Option<u32>
 pub fn quantified_of(slots: &[Slot], id: u32) -> u32
     ensures { result ≡ quantified_of slots.now id }
 {
-    match slots.get(id as usize) {
-        Some(Slot::Counter(counter)) => *counter,
-        _ => 0,
-    }
+    counter_of(slots, id).unwrap_or(0)
 }
 
 /// The number of a channel.

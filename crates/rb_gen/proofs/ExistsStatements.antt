@@ -167,10 +167,17 @@ module _ (slots : List Slot) where
             alternates = a.0;
           } in (
             settled (added (Test number) t.0) number entry,
-            recovered slots words number conversation place test bound alternates entry refl refl refl refl
-                (add Turn refl (λ j w. refl) c) (add (Enter number) refl (λ j w. refl) (added Turn c)) refl
-                (add Turn refl (λ j w. refl) enter) (add (Start number) refl (λ j w. refl) (added Turn enter)) inside.1 (sym inside.2)
-                (add Turn refl (λ j w. refl) inside.0) t.1 (add (Test number) refl (λ j w. refl) t.0) refl,
+            recovered slots words number conversation place test bound alternates entry refl refl refl refl (
+              added Turn c,
+              enter,
+              added Turn enter,
+              add Turn refl (λ j w. refl) c,
+              add (Enter number) refl (λ j w. refl) (added Turn c),
+              refl,
+              add Turn refl (λ j w. refl) enter,
+              add (Start number) refl (λ j w. refl) (added Turn enter),
+            ) inside.1 (sym inside.2)
+                (then_adds (add Turn refl (λ j w. refl) inside.0) (then_adds t.1 (add (Test number) refl (λ j w. refl) t.0))) refl,
           )
 
       -- Alternates, at these addresses, before an acceptance test at any address; and where they end.

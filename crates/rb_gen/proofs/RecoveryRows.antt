@@ -6,13 +6,13 @@ use Rattle.rb_syntax.specs.Tree.{Identifier, Expression, Body, RecoveryBlock, Re
 use Rattle.rb_syntax.specs.Numbered.{blocks_in_alternates, blocks_in_body}
 use Rattle.rb_meaning.specs.Environment.{natural}
 use Rattle.rb_scope.specs.declared.slot.Slot.{Slot}
-use Rattle.rb_code.specs.declared.instr.Instr.TheVariants.{Turn, Jump, Enter, Start, Test}
+use Rattle.rb_code.specs.declared.instr.Instr.TheVariants.{Jump}
 use Rattle.rb_code.specs.Instructions.Plain.{Block}
-use Rattle.rb_code.specs.Agreement.Template.{One}
 use Rattle.rb_code.specs.Agreement.Forms.{AlternatesForm, BlockForm, BodyForm, CommandForm, ExpressionCode, OthersForm}
 use Rattle.rb_draft.specs.Output.{Output, added, filled_with, patched, settled}
 use Rattle.rb_draft.specs.Emits.{Adds}
 use Rattle.rb_draft.specs.Lookups.{joined_of}
+use Rattle.rb_gen.specs.InMemory.{AcceptanceCode, PutsEntry}
 use Rattle.rb_gen.specs.Writes.{WritesAlternates, WritesBody, WritesOthers, WritesRecovery}
 use Rattle.rb_draft.proofs.Growing.{append-none}
 use Rattle.rb_draft.proofs.Emits.{at, both, filled, filled-last, filled-length, listed, only, settled_then, upto}
@@ -21,15 +21,15 @@ module _ (slots : List Slot) (words : List ℕ) where
   -- a recovery block, whose entry is settled behind its code
   pub recovered : {x : RecoveryBlock} (number : ℕ) (conversation : Option Identifier) (place : Place) (test : Expression)
       (limit : Number) (alternates : Alternates)
-      (entry : Block) {c c1 c2 c3 c4 c5 c6 c7 c8 f : Output}
+      (entry : Block) {c c4 c5 c8 f : Output}
       → x ≡ Recovers number conversation place test limit alternates → entry.line ≡ place.line → entry.conversation ≡ joined_of slots conversation
-      → entry.bound ≡ natural limit.value → Adds (One Turn) c c1 → Adds (One (Enter number)) c1 c2 → entry.restart ≡ length c2.instrs
-      → Adds (One Turn) c2 c3 → Adds (One (Start number)) c3 c4 → WritesAlternates slots words alternates entry.alternates entry.test c4 c5
-      → entry.test ≡ length c5.instrs → Adds (One Turn) c5 c6 → Adds (ExpressionCode slots test) c6 c7 → Adds (One (Test number)) c7 c8
+      → entry.bound ≡ natural limit.value → PutsEntry number entry.restart c c4
+      → WritesAlternates slots words alternates entry.alternates entry.test c4 c5
+      → entry.test ≡ length c5.instrs → Adds (AcceptanceCode number (ExpressionCode slots test)) c5 c8
       → f ≡ settled c8 number entry → WritesRecovery slots words x c f
   unfolding CommandForm BlockForm AlternatesForm
-  recovered number conversation place test limit alternates entry {c = c} {c2 = c2} {c5 = c5} {f =
-      f} is line joined bound turn enter restart turn2 start inside testing turn3 value tests settles =
+  recovered number conversation place test limit alternates entry {c = c} {c5 = c5} {f =
+      f} is line joined bound (_, c2, _, turn, enter, restart, turn2, start) inside testing tests settles =
       subst (λ x. WritesRecovery slots words x c f) (sym is) (λ s n (numbered, conversation_is, given).
       let p = s.owner.number in
       let m = n + 1 in
@@ -37,7 +37,7 @@ module _ (slots : List Slot) (words : List ℕ) where
       upto (settled_then entry numbered settles
       (both (only m c (record { line_is = line; conversation_is = joined ∙ conversation_is; bound_is = bound }))
       (both (turn p m) (both (enter p m) (both (at m c2 restart) (both (turn2 p m) (both (start p m)
-      (both (inside s m given) (both (at k c5 testing) (both (turn3 p k) (both (value p k) (tests p k)))))))))))) (omega arith))
+      (both (inside s m given) (both (at k c5 testing) (tests p k)))))))))) (omega arith))
 
   pub no_alternate : (t : ℕ) {a : Alternates} (addresses : List ℕ) (c : Output) → a ≡ NoAlternate → addresses ≡ []
       → WritesAlternates slots words a addresses t c c

@@ -1,8 +1,9 @@
 -- The code of expressions and of simple statements, as it is put together.
 use Rattle.std.proofs.Common.{◌≡◌, ℕ, List, Option, refl, sym, ap, ◌∙◌, subst, ℤ}
-use Rattle.std.specs.Prelude.{false, get_or, map}
+use Rattle.std.specs.Prelude.{false, get_or, map, OnOk, Result}
 use Rattle.std.specs.Option.{unwrap_or}
 use Rattle.std.proofs.lemmas.Option.{slice_get-map, unwrap_or-slice_get}
+use Rattle.std.proofs.lemmas.Result.{IfOk-weaker}
 use Rattle.rb_syntax.specs.declared.expression.Expr.{Expr}
 use Rattle.rb_syntax.specs.declared.statement.ItemKind.{ItemKind}
 use Rattle.rb_syntax.specs.declared.statement.ItemKind.TheVariants.{Text, Value}
@@ -26,6 +27,10 @@ use Rattle.rb_gen.specs.InMemory.{operator}
 use Rattle.rb_draft.specs.Emits.{Adds, Emits, Placed}
 use Rattle.rb_gen.specs.Writes.{room_of}
 use Rattle.rb_draft.proofs.Emits.{both, empty}
+
+-- what a last call leaves, where it goes well
+pub last_call : {X E A B : Type 0} (r : Result X E) → OnOk r A → (A → B) → OnOk r B
+last_call r h f = IfOk-weaker r _ _ (λ x a. f a) h
 
 -- one template after another
 pub then_adds : {P Q : Template} {c d e : Output} → Adds P c d → Adds Q d e → Adds (P ⨾ Q) c e

@@ -7,7 +7,7 @@ ghost use Rattle.rb_code.specs.Agreement.Template.{One};
 ghost use Rattle.rb_code.specs.Agreement.Forms.{AndCode, EveryCode, ExpressionCode, LinksCode, OperatorCode, OrCode, QuantifiedCode, ScalarCode, SomeCode, SumCode};
 ghost use Rattle.rb_draft.specs.Output.{output};
 ghost use Rattle.rb_draft.specs.Emits.{Adds};
-ghost use Rattle.rb_gen.specs.InMemory.{LeavesTest, PriorCode, ValueCode, operator, over};
+ghost use Rattle.rb_gen.specs.InMemory.{LeavesRange, LeavesTest, PriorCode, PutsZero, ValueCode, operator, over};
 
 use rb_base::Memory;
 use rb_code::{Instr, Spot};
@@ -26,37 +26,22 @@ pub(crate) fn emit_expression(
     ensures { OnOk result (Adds (ExpressionCode slots.now (plain expression.now)) (output draft.old) (output draft.new)) }
 {
     match expression {
-        Expr::Number(number) => {
-            put(draft, Instr::Push(number.value))?;
-            Ok(())
-        }
-        Expr::Value(target) => {
-            emit_value(draft, slots, target)?;
-            Ok(())
-        }
-        Expr::Prior(_, target) => {
-            emit_prior(draft, slots, target)?;
-            Ok(())
-        }
+        Expr::Number(number) => put(draft, Instr::Push(number.value)),
+        Expr::Value(target) => emit_value(draft, slots, target),
+        Expr::Prior(_, target) => emit_prior(draft, slots, target),
         Expr::Neg(operand) => {
             emit_expression(draft, slots, operand)?;
-            put(draft, Instr::Neg)?;
-            Ok(())
+            put(draft, Instr::Neg)
         }
         Expr::Not(operand) => {
             emit_expression(draft, slots, operand)?;
-            put(draft, Instr::Not)?;
-            Ok(())
+            put(draft, Instr::Not)
         }
         Expr::Chain(first, links) => {
             emit_expression(draft, slots, first)?;
-            emit_links(draft, slots, links)?;
-            Ok(())
+            emit_links(draft, slots, links)
         }
-        Expr::Quantified(quantified) => {
-            emit_quantified(draft, slots, quantified)?;
-            Ok(())
-        }
+        Expr::Quantified(quantified) => emit_quantified(draft, slots, quantified),
     }
 }
 
@@ -67,15 +52,11 @@ fn emit_value(draft: &mut Draft, slots: &[Slot], target: &Target<'_>) -> Result<
 {
     let spot = spot_of(slots, target.name.id);
     match &target.index {
-        None => {
-            put_scalar(draft, counter_of(slots, target.name.id), spot)?;
-            Ok(())
-        }
+        None => put_scalar(draft, counter_of(slots, target.name.id), spot),
         Some(index) => {
             emit_expression(draft, slots, index)?;
             put_bound(draft, slots, target.name.id)?;
-            put(draft, Instr::LoadAt(spot))?;
-            Ok(())
+            put(draft, Instr::LoadAt(spot))
         }
     }
 }
@@ -87,15 +68,11 @@ fn emit_prior(draft: &mut Draft, slots: &[Slot], target: &Target<'_>) -> Result<
 {
     let spot = spot_of(slots, target.name.id);
     match &target.index {
-        None => {
-            put(draft, Instr::Prior(spot))?;
-            Ok(())
-        }
+        None => put(draft, Instr::Prior(spot)),
         Some(index) => {
             emit_expression(draft, slots, index)?;
             put_bound(draft, slots, target.name.id)?;
-            put(draft, Instr::PriorAt(spot))?;
-            Ok(())
+            put(draft, Instr::PriorAt(spot))
         }
     }
 }
@@ -104,8 +81,7 @@ fn emit_prior(draft: &mut Draft, slots: &[Slot], target: &Target<'_>) -> Result<
 pub(crate) fn put_bound(draft: &mut Draft, slots: &[Slot], id: u32) -> Result<(), Memory>
     ensures { OnOk result (Adds (One (Instr.Bound (elements_of slots.now id))) (output draft.old) (output draft.new)) }
 {
-    put(draft, Instr::Bound(elements_of(slots, id)))?;
-    Ok(())
+    put(draft, Instr::Bound(elements_of(slots, id)))
 }
 
 /// The value of a scalar, or the counter.
@@ -113,14 +89,8 @@ fn put_scalar(draft: &mut Draft, counter: Option<u32>, spot: Spot) -> Result<(),
     ensures { OnOk result (Adds (ScalarCode counter spot) (output draft.old) (output draft.new)) }
 {
     match counter {
-        None => {
-            put(draft, Instr::Load(spot))?;
-            Ok(())
-        }
-        Some(counter) => {
-            put(draft, Instr::Counter(counter))?;
-            Ok(())
-        }
+        None => put(draft, Instr::Load(spot)),
+        Some(counter) => put(draft, Instr::Counter(counter)),
     }
 }
 
@@ -140,18 +110,11 @@ fn emit_link(draft: &mut Draft, slots: &[Slot], link: &Link<'_>) -> Result<(), M
     ensures { OnOk result (Adds (OperatorCode link.now.op (ExpressionCode slots.now (plain link.now.right))) (output draft.old) (output draft.new)) }
 {
     match link.op {
-        Op::And => {
-            emit_and(draft, slots, &link.right)?;
-            Ok(())
-        }
-        Op::Or => {
-            emit_or(draft, slots, &link.right)?;
-            Ok(())
-        }
+        Op::And => emit_and(draft, slots, &link.right),
+        Op::Or => emit_or(draft, slots, &link.right),
         op => {
             emit_expression(draft, slots, &link.right)?;
-            put(draft, operator(op))?;
-            Ok(())
+            put(draft, operator(op))
         }
     }
 }
@@ -183,13 +146,21 @@ fn emit_and(draft: &mut Draft, slots: &[Slot], right: &Expr<'_>) -> Result<(), M
     let test = leave(draft)?;
     emit_expression(draft, slots, right)?;
     put(draft, Instr::Bool)?;
+    let no = put_zero(draft)?;
+    patch(draft, test, Instr::JumpZero(no));
+    Ok(())
+}
+
+/// A zero, over which the code before it leads, and its address.
+fn put_zero(draft: &mut Draft) -> Result<u32, Memory>
+    ensures { IfOk result (λ zero. PutsZero zero (output draft.old) (output draft.new)) }
+{
     let skip = leave(draft)?;
-    let no = here(draft)?;
+    let zero = here(draft)?;
     put(draft, Instr::Push(0))?;
     let end = here(draft)?;
     patch(draft, skip, Instr::Jump(end));
-    patch(draft, test, Instr::JumpZero(no));
-    Ok(())
+    Ok(zero)
 }
 
 #[cycle(expression)]
@@ -218,19 +189,24 @@ fn emit_quantified(
     ensures { OnOk result (Adds (over (QuantifiedCode quantified.now.kind) slots.now quantified.now) (output draft.old) (output draft.new)) }
 {
     match quantified.kind {
-        Quantifier::Every => {
-            emit_every(draft, slots, quantified)?;
-            Ok(())
-        }
-        Quantifier::Any => {
-            emit_some(draft, slots, quantified)?;
-            Ok(())
-        }
-        Quantifier::Total => {
-            emit_sum(draft, slots, quantified)?;
-            Ok(())
-        }
+        Quantifier::Every => emit_every(draft, slots, quantified),
+        Quantifier::Any => emit_some(draft, slots, quantified),
+        Quantifier::Total => emit_sum(draft, slots, quantified),
     }
+}
+
+/// The limits of a quantified expression, and a place for what enters its loop.
+#[cycle(expression)]
+fn emit_limits(
+    draft: &mut Draft,
+    slots: &[Slot],
+    quantified: &Quantified<'_>,
+) -> Result<usize, Memory>
+    ensures { IfOk result (λ range. LeavesRange slots.now quantified.now range (output draft.old) (output draft.new)) }
+{
+    emit_expression(draft, slots, &quantified.low)?;
+    emit_expression(draft, slots, &quantified.high)?;
+    leave(draft)
 }
 
 #[cycle(expression)]
@@ -238,20 +214,14 @@ fn emit_every(draft: &mut Draft, slots: &[Slot], quantified: &Quantified<'_>) ->
     ensures { OnOk result (Adds (over EveryCode slots.now quantified.now) (output draft.old) (output draft.new)) }
 {
     let counter = quantified_of(slots, quantified.name.id);
-    emit_expression(draft, slots, &quantified.low)?;
-    emit_expression(draft, slots, &quantified.high)?;
-    let range = leave(draft)?;
+    let range = emit_limits(draft, slots, quantified)?;
     let again = here(draft)?;
     emit_expression(draft, slots, &quantified.body)?;
     let test = leave(draft)?;
     put(draft, Instr::Again(counter, again))?;
     let yes = here(draft)?;
     put(draft, Instr::Push(1))?;
-    let skip = leave(draft)?;
-    let no = here(draft)?;
-    put(draft, Instr::Push(0))?;
-    let end = here(draft)?;
-    patch(draft, skip, Instr::Jump(end));
+    let no = put_zero(draft)?;
     patch(draft, test, Instr::JumpZero(no));
     patch(draft, range, Instr::Range(counter, yes));
     Ok(())
@@ -262,9 +232,7 @@ fn emit_some(draft: &mut Draft, slots: &[Slot], quantified: &Quantified<'_>) -> 
     ensures { OnOk result (Adds (over SomeCode slots.now quantified.now) (output draft.old) (output draft.new)) }
 {
     let counter = quantified_of(slots, quantified.name.id);
-    emit_expression(draft, slots, &quantified.low)?;
-    emit_expression(draft, slots, &quantified.high)?;
-    let range = leave(draft)?;
+    let range = emit_limits(draft, slots, quantified)?;
     let again = here(draft)?;
     emit_expression(draft, slots, &quantified.body)?;
     let test = leave(draft)?;
@@ -287,9 +255,7 @@ fn emit_sum(draft: &mut Draft, slots: &[Slot], quantified: &Quantified<'_>) -> R
 {
     let counter = quantified_of(slots, quantified.name.id);
     put(draft, Instr::Push(0))?;
-    emit_expression(draft, slots, &quantified.low)?;
-    emit_expression(draft, slots, &quantified.high)?;
-    let range = leave(draft)?;
+    let range = emit_limits(draft, slots, quantified)?;
     let again = here(draft)?;
     emit_expression(draft, slots, &quantified.body)?;
     put(draft, Instr::Add)?;
@@ -305,6 +271,5 @@ pub(crate) fn emit_test(draft: &mut Draft, slots: &[Slot], test: &Expr<'_>) -> R
 {
     put(draft, Instr::Turn)?;
     emit_expression(draft, slots, test)?;
-    let place = leave(draft)?;
-    Ok(place)
+    leave(draft)
 }

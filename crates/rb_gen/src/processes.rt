@@ -66,10 +66,25 @@ fn emit_process(
         (λ entries. WritesProcess slots.now (declared process.now) (map plain_procedure entries.items) (output draft.old) (output draft.new)) }
 {
     let words = rooms(alloc, &process.procedures)?;
+    emit_linked(alloc, draft, slots, &words, process)
+}
+
+/// The same, where `words` has the words of each procedure of the process.
+fn emit_linked(
+    alloc: Global,
+    draft: &mut Draft,
+    slots: &[Slot],
+    words: &[u32],
+    process: &Process<'_>,
+) -> Result<Vec<ProcedureCode>, Memory>
+    ensures { IfOk result
+        (λ entries. words.now ≡ map room_of (declared process.now).procedures
+        → WritesProcess slots.now (declared process.now) (map plain_procedure entries.items) (output draft.old) (output draft.new)) }
+{
     let from = draft.instrs.len();
-    emit_statements(alloc, draft, slots, &words, &process.body)?;
+    emit_statements(alloc, draft, slots, words, &process.body)?;
     put(draft, Instr::Done)?;
-    let entries = emit_procedures(alloc, draft, slots, &words, &process.procedures)?;
+    let entries = emit_procedures(alloc, draft, slots, words, &process.procedures)?;
     link(draft, from, &entries);
     Ok(entries)
 }

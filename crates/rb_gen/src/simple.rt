@@ -35,15 +35,13 @@ pub(crate) fn emit_assignment(
     match &target.index {
         None => {
             emit_expression(draft, slots, value)?;
-            put(draft, Instr::Store(spot))?;
-            Ok(())
+            put(draft, Instr::Store(spot))
         }
         Some(index) => {
             emit_expression(draft, slots, index)?;
             put_bound(draft, slots, target.name.id)?;
             emit_expression(draft, slots, value)?;
-            put(draft, Instr::StoreAt(spot))?;
-            Ok(())
+            put(draft, Instr::StoreAt(spot))
         }
     }
 }
@@ -53,8 +51,7 @@ pub(crate) fn emit_failure(draft: &mut Draft) -> Result<(), Memory>
     ensures { OnOk result (Adds (One Instr.Turn ⨾ One Instr.Fail) (output draft.old) (output draft.new)) }
 {
     put(draft, Instr::Turn)?;
-    put(draft, Instr::Fail)?;
-    Ok(())
+    put(draft, Instr::Fail)
 }
 
 /// The code that takes the message of a channel into a place.
@@ -70,15 +67,13 @@ pub(crate) fn emit_taking(
     match &target.index {
         None => {
             put(draft, Instr::Take(channel))?;
-            put(draft, Instr::Store(spot))?;
-            Ok(())
+            put(draft, Instr::Store(spot))
         }
         Some(index) => {
             emit_expression(draft, slots, index)?;
             put_bound(draft, slots, target.name.id)?;
             put(draft, Instr::Take(channel))?;
-            put(draft, Instr::StoreAt(spot))?;
-            Ok(())
+            put(draft, Instr::StoreAt(spot))
         }
     }
 }
@@ -98,8 +93,7 @@ pub(crate) fn emit_sending(
     put(draft, Instr::Turn)?;
     put(draft, Instr::Room(number))?;
     emit_expression(draft, slots, value)?;
-    put(draft, Instr::Put(number))?;
-    Ok(())
+    put(draft, Instr::Put(number))
 }
 
 fn emit_item(
@@ -111,14 +105,10 @@ fn emit_item(
     ensures { OnOk result (Adds (PrintedCode slots.now (printed item.now.what)) (output draft.old) (output draft.new)) }
 {
     match &item.what {
-        ItemKind::Text(text) => {
-            put_text(alloc, draft, text)?;
-            Ok(())
-        }
+        ItemKind::Text(text) => put_text(alloc, draft, text),
         ItemKind::Value(value) => {
             emit_expression(draft, slots, value)?;
-            put(draft, Instr::Item)?;
-            Ok(())
+            put(draft, Instr::Item)
         }
     }
 }
@@ -151,8 +141,7 @@ pub(crate) fn emit_printing(
 {
     put(draft, Instr::Turn)?;
     emit_items(alloc, draft, slots, items)?;
-    put(draft, Instr::Print)?;
-    Ok(())
+    put(draft, Instr::Print)
 }
 
 fn emit_arguments(draft: &mut Draft, slots: &[Slot], arguments: &[Expr<'_>]) -> Result<(), Memory>
@@ -191,6 +180,5 @@ pub(crate) fn emit_call(
     let count = narrow(arguments.len())?;
     put(draft, Instr::Turn)?;
     emit_arguments(draft, slots, arguments)?;
-    put(draft, Instr::Call(number, count, room_at(words, number)))?;
-    Ok(())
+    put(draft, Instr::Call(number, count, room_at(words, number)))
 }

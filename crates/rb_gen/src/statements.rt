@@ -1,9 +1,12 @@
 //! The code of statements with statements inside.
 
-ghost use Rattle.std.specs.Prelude.{◌≡◌, ℕ, length, IfOk, OnOk};
+ghost use Rattle.std.specs.Prelude.{◌≡◌, [], ◌∷◌, ◌++◌, length, IfOk, OnOk};
 ghost use Rattle.rb_syntax.specs.Plain.{alternates_of, body, command, commands_of, expression as plain, identifier, otherwise, recovery_block, reference};
 ghost use Rattle.rb_syntax.specs.Tree.{Loop, Receiving};
+ghost use Rattle.rb_code.specs.Agreement.Forms.{ExpressionCode};
 ghost use Rattle.rb_draft.specs.Output.{output};
+ghost use Rattle.rb_draft.specs.Emits.{Adds};
+ghost use Rattle.rb_gen.specs.InMemory.{AcceptanceCode, PutsEntry};
 ghost use Rattle.rb_gen.specs.Writes.{WritesAlternates, WritesBody, WritesCommand, WritesCommands, WritesElse, WritesOtherwise, WritesRecovery, WritesThen};
 
 use crate::expressions::{emit_expression, emit_test};
@@ -31,24 +34,23 @@ pub(crate) fn emit_statement(
     ensures { OnOk result (WritesCommand slots.now words.now (command statement.now) (output draft.old) (output draft.new)) }
 {
     match statement {
-        Statement::Assign(target, value) => emit_assignment(draft, slots, target, value)?,
-        Statement::Print(items) => emit_printing(alloc, draft, slots, items)?,
-        Statement::Send(channel, value) => emit_sending(draft, slots, channel, value)?,
+        Statement::Assign(target, value) => emit_assignment(draft, slots, target, value),
+        Statement::Print(items) => emit_printing(alloc, draft, slots, items),
+        Statement::Send(channel, value) => emit_sending(draft, slots, channel, value),
         Statement::Receive(channel, target, other) => {
-            emit_receipt(alloc, draft, slots, words, other, channel, target)?
+            emit_receipt(alloc, draft, slots, words, other, channel, target)
         }
         Statement::If(test, block, other) => {
             let over = emit_then(alloc, draft, slots, words, block, test)?;
-            emit_otherwise(alloc, draft, slots, words, other, over)?
+            emit_otherwise(alloc, draft, slots, words, other, over)
         }
-        Statement::While(test, block) => emit_loop(alloc, draft, slots, words, block, test)?,
+        Statement::While(test, block) => emit_loop(alloc, draft, slots, words, block, test),
         Statement::Call(procedure, arguments) => {
-            emit_call(draft, slots, words, procedure, arguments)?
+            emit_call(draft, slots, words, procedure, arguments)
         }
-        Statement::Fail => emit_failure(draft)?,
-        Statement::Recover(recovery) => emit_recovery(alloc, draft, slots, words, recovery)?,
+        Statement::Fail => emit_failure(draft),
+        Statement::Recover(recovery) => emit_recovery(alloc, draft, slots, words, recovery),
     }
-    Ok(())
 }
 
 /// The test of an `if` with its block, and the place behind the test that is left.
@@ -108,8 +110,7 @@ fn emit_receipt(
     match other {
         None => {
             put(draft, Instr::There(number))?;
-            emit_taking(draft, slots, number, target)?;
-            Ok(())
+            emit_taking(draft, slots, number, target)
         }
         Some(other) => {
             let absent = leave(draft)?;
@@ -192,8 +193,7 @@ fn emit_body(
     let size = words_of(&block.vars)?;
     put_frame(draft, size)?;
     emit_statements(alloc, draft, slots, words, &block.body)?;
-    put_drop(draft, size)?;
-    Ok(())
+    put_drop(draft, size)
 }
 
 /// The code of a recovery block.
@@ -209,16 +209,10 @@ fn emit_recovery(
 {
     let number = recovery.number;
     let bound = natural(recovery.bound)?;
-    put(draft, Instr::Turn)?;
-    put(draft, Instr::Enter(number))?;
-    let restart = here(draft)?;
-    put(draft, Instr::Turn)?;
-    put(draft, Instr::Start(number))?;
+    let restart = put_entry(draft, number)?;
     let alternates = emit_alternates(alloc, draft, slots, words, &recovery.alternates)?;
     let test = here(draft)?;
-    put(draft, Instr::Turn)?;
-    emit_expression(draft, slots, &recovery.test)?;
-    put(draft, Instr::Test(number))?;
+    emit_acceptance(draft, slots, &recovery.test, number)?;
     let entry = BlockCode {
         line: recovery.place.line,
         conversation: joined_of(slots, recovery.conversation),
@@ -229,6 +223,32 @@ fn emit_recovery(
     };
     settle(draft, number, entry);
     Ok(())
+}
+
+/// The entry of a recovery block and a start of it, whose address is told.
+fn put_entry(draft: &mut Draft, number: u32) -> Result<u32, Memory>
+    ensures { IfOk result (λ restart. PutsEntry number restart (output draft.old) (output draft.new)) }
+{
+    put(draft, Instr::Turn)?;
+    put(draft, Instr::Enter(number))?;
+    let restart = here(draft)?;
+    put(draft, Instr::Turn)?;
+    put(draft, Instr::Start(number))?;
+    Ok(restart)
+}
+
+/// The acceptance test of a recovery block.
+fn emit_acceptance(
+    draft: &mut Draft,
+    slots: &[Slot],
+    test: &Expr<'_>,
+    number: u32,
+) -> Result<(), Memory>
+    ensures { OnOk result (Adds (AcceptanceCode number (ExpressionCode slots.now (plain test.now))) (output draft.old) (output draft.new)) }
+{
+    put(draft, Instr::Turn)?;
+    emit_expression(draft, slots, test)?;
+    put(draft, Instr::Test(number))
 }
 
 /// The code of alternates, and the address of each.
@@ -248,18 +268,32 @@ fn emit_alternates(
     let [first, others @ ..] = alternates else {
         return Ok(addresses);
     };
-    let start = here(draft)?;
-    addresses.push(start)?;
-    emit_body(alloc, draft, slots, words, first)?;
+    emit_alternate(alloc, draft, slots, words, first, &mut addresses)?;
     let mut places = Vec::new(alloc);
     'others: for other in others {
         let place = leave(draft)?;
         places.push(place)?;
-        let start = here(draft)?;
-        addresses.push(start)?;
-        emit_body(alloc, draft, slots, words, other)?;
+        emit_alternate(alloc, draft, slots, words, other, &mut addresses)?;
     }
     let test = here(draft)?;
     fill(draft, &places, Instr::Jump(test));
     Ok(addresses)
+}
+
+/// The code of an alternate, whose address comes to those before it.
+#[cycle(statement)]
+fn emit_alternate(
+    alloc: Global,
+    draft: &mut Draft,
+    slots: &[Slot],
+    words: &[u32],
+    block: &Block<'_>,
+    addresses: &mut Vec<u32>,
+) -> Result<(), Memory>
+    ensures address { OnOk result (addresses.new.items ≡ addresses.old.items ++ length draft.old.instrs.items ∷ []) }
+    ensures code { OnOk result (WritesBody slots.now words.now (body block.now) (output draft.old) (output draft.new)) }
+{
+    let start = here(draft)?;
+    addresses.push(start)?;
+    emit_body(alloc, draft, slots, words, block)
 }

@@ -1,9 +1,11 @@
 pub mod Loop
+pub mod Chains
 pub mod Formats
 pub mod Numbers
 pub mod Lists
 pub mod Flags
 pub mod Instructions
+pub mod WriteInstrs
 pub mod Parts
 pub mod Whole
 pub mod Found

@@ -2,6 +2,7 @@ pub mod Pieces
 pub mod Instrs
 pub mod Reading
 pub mod ReadInstrs
+pub mod WriteInstrs
 pub mod Image
 pub mod ReadParts
 pub mod Ranges

@@ -1,6 +1,6 @@
 //! The numbers that instructions name.
 
-ghost use Rattle.std.specs.Prelude.{◌≡◌, ◌↔◌, IsTrue, length, map};
+ghost use Rattle.std.specs.Prelude.{◌≡◌, ◌↔◌, ◌<◌, IsTrue, length, map};
 ghost use Rattle.std.specs.List.{All};
 ghost use Rattle.rb_code.specs.Instructions.Plain.{code as plain};
 ghost use Rattle.rb_code.specs.SoundCode.WellFormed.{Names as NamesThere};
@@ -17,22 +17,31 @@ pub(crate) fn all_name_entries(code: &Code) -> bool
 fn names_entries(code: &Code, instr: Instr) -> bool
     ensures { IsTrue result ↔ NamesThere (plain code.now) instr }
 {
-    let is_instr = |address: u32| (address as usize) < code.instrs.len();
-    let is_channel = |channel: u32| (channel as usize) < code.channels.len();
-    let is_block = |block: u32| (block as usize) < code.blocks.len();
     match instr {
         Instr::Jump(address) | Instr::JumpZero(address) | Instr::Call(address, _, _) => {
-            is_instr(address)
+            is_one(address, code.instrs.len())
         }
-        Instr::Text(text) => (text as usize) < code.texts.len(),
+        Instr::Text(text) => is_one(text, code.texts.len()),
         Instr::Room(channel) | Instr::Put(channel) | Instr::There(channel) | Instr::Take(channel) =>
-            is_channel(channel),
-        Instr::Absent(channel, address) => is_channel(channel) && is_instr(address),
-        Instr::Enter(block) | Instr::Start(block) | Instr::Test(block) => is_block(block),
+            is_one(channel, code.channels.len()),
+        Instr::Absent(channel, address) => {
+            is_one(channel, code.channels.len()) && is_one(address, code.instrs.len())
+        }
+        Instr::Enter(block) | Instr::Start(block) | Instr::Test(block) => is_one(
+            block,
+            code.blocks.len(),
+        ),
         Instr::Range(counter, address) | Instr::Again(counter, address) => {
-            counter < 2 && is_instr(address)
+            counter < 2 && is_one(address, code.instrs.len())
         }
         Instr::Counter(counter) => counter < 2,
         _ => true,
     }
+}
+
+// Whether a number is that of one of so many.
+fn is_one(number: u32, count: usize) -> bool
+    ensures { IsTrue result ↔ (number < count) }
+{
+    (number as usize) < count
 }

@@ -6,12 +6,23 @@ ghost use Rattle.rb_code.specs.declared.instr.Instr.{Instr as PlainInstr};
 ghost use Rattle.rb_image.specs.Instrs.{code, instr as bytes_of};
 ghost use Rattle.rb_image.specs.Pieces.{list, natural, number, spot as spot_bytes};
 ghost use Rattle.rb_image.specs.Ranges.{Are, IsInstr, IsSpot};
+ghost use Rattle.rb_image.specs.WriteInstrs.{operands_in};
 
 use crate::write::list::{Spelled, put_list};
 use crate::write::number::put_natural;
 use rb_code::{Instr, Spot};
 use rb_outside::{Failed, Sink};
 use rb_trace::line::put;
+
+/// The operands of an instruction: none, a number with a sign, a word of the process, or so many numbers.
+enum Operands {
+    Nothing,
+    Integer(i64),
+    Word(Spot),
+    One(u32),
+    Two(u32, u32),
+    Three(u32, u32, u32),
+}
 
 impl Spelled for Instr {
     ghost Plain = { PlainInstr };
@@ -32,52 +43,101 @@ pub(crate) fn put_instr<S: Sink>(out: &mut S, instr: &Instr) -> Result<(), Faile
     ensures text { Puts (bytes_of instr.now) (S.written out.old) (S.written out.new) (S.faults out.old) (S.faults out.new) result }
     ensures ranges { OnOk result (IsInstr instr.now) }
 {
-    match *instr {
-        Instr::Turn => put(out, &[0]),
-        Instr::Push(n) => put_push(out, n),
-        Instr::Load(word) => put_spot(out, 2, word),
-        Instr::Prior(word) => put_spot(out, 3, word),
-        Instr::Bound(n) => put_one(out, 4, n),
-        Instr::LoadAt(word) => put_spot(out, 5, word),
-        Instr::PriorAt(word) => put_spot(out, 6, word),
-        Instr::Store(word) => put_spot(out, 7, word),
-        Instr::StoreAt(word) => put_spot(out, 8, word),
-        Instr::Add => put(out, &[9]),
-        Instr::Sub => put(out, &[10]),
-        Instr::Mul => put(out, &[11]),
-        Instr::Div => put(out, &[12]),
-        Instr::Rem => put(out, &[13]),
-        Instr::Eq => put(out, &[14]),
-        Instr::Ne => put(out, &[15]),
-        Instr::Lt => put(out, &[16]),
-        Instr::Le => put(out, &[17]),
-        Instr::Gt => put(out, &[18]),
-        Instr::Ge => put(out, &[19]),
-        Instr::Neg => put(out, &[20]),
-        Instr::Not => put(out, &[21]),
-        Instr::Bool => put(out, &[22]),
-        Instr::Jump(n) => put_one(out, 23, n),
-        Instr::JumpZero(n) => put_one(out, 24, n),
-        Instr::Frame(n) => put_one(out, 25, n),
-        Instr::Drop(n) => put_one(out, 26, n),
-        Instr::Text(n) => put_one(out, 27, n),
-        Instr::Item => put(out, &[28]),
-        Instr::Print => put(out, &[29]),
-        Instr::Room(n) => put_one(out, 30, n),
-        Instr::Put(n) => put_one(out, 31, n),
-        Instr::There(n) => put_one(out, 32, n),
-        Instr::Take(n) => put_one(out, 33, n),
-        Instr::Call(a, p, n) => put_call(out, a, p, n),
-        Instr::Return => put(out, &[35]),
-        Instr::Fail => put(out, &[36]),
-        Instr::Enter(n) => put_one(out, 37, n),
-        Instr::Start(n) => put_one(out, 38, n),
-        Instr::Test(n) => put_one(out, 39, n),
-        Instr::Done => put(out, &[40]),
-        Instr::Range(m, n) => put_two(out, 41, m, n),
-        Instr::Again(m, n) => put_two(out, 42, m, n),
-        Instr::Counter(n) => put_one(out, 43, n),
-        Instr::Absent(m, n) => put_two(out, 44, m, n),
+    let number = number_of(*instr);
+    match operands_in(*instr) {
+        Operands::Nothing => put(out, &[number]),
+        Operands::Integer(n) => put_push(out, n),
+        Operands::Word(word) => put_spot(out, number, word),
+        Operands::One(n) => put_one(out, number, n),
+        Operands::Two(m, n) => put_two(out, number, m, n),
+        Operands::Three(a, p, n) => put_call(out, a, p, n),
+    }
+}
+
+/// The number of an instruction.
+fn number_of(instr: Instr) -> u8
+    ensures { result ≡ code instr }
+{
+    match instr {
+        Instr::Turn => 0,
+        Instr::Push(_) => 1,
+        Instr::Load(_) => 2,
+        Instr::Prior(_) => 3,
+        Instr::Bound(_) => 4,
+        Instr::LoadAt(_) => 5,
+        Instr::PriorAt(_) => 6,
+        Instr::Store(_) => 7,
+        Instr::StoreAt(_) => 8,
+        Instr::Add => 9,
+        Instr::Sub => 10,
+        Instr::Mul => 11,
+        Instr::Div => 12,
+        Instr::Rem => 13,
+        Instr::Eq => 14,
+        Instr::Ne => 15,
+        Instr::Lt => 16,
+        Instr::Le => 17,
+        Instr::Gt => 18,
+        Instr::Ge => 19,
+        Instr::Neg => 20,
+        Instr::Not => 21,
+        Instr::Bool => 22,
+        Instr::Jump(_) => 23,
+        Instr::JumpZero(_) => 24,
+        Instr::Frame(_) => 25,
+        Instr::Drop(_) => 26,
+        Instr::Text(_) => 27,
+        Instr::Item => 28,
+        Instr::Print => 29,
+        Instr::Room(_) => 30,
+        Instr::Put(_) => 31,
+        Instr::There(_) => 32,
+        Instr::Take(_) => 33,
+        Instr::Call(_, _, _) => 34,
+        Instr::Return => 35,
+        Instr::Fail => 36,
+        Instr::Enter(_) => 37,
+        Instr::Start(_) => 38,
+        Instr::Test(_) => 39,
+        Instr::Done => 40,
+        Instr::Range(_, _) => 41,
+        Instr::Again(_, _) => 42,
+        Instr::Counter(_) => 43,
+        Instr::Absent(_, _) => 44,
+    }
+}
+
+/// The operands of an instruction.
+fn operands_in(instr: Instr) -> Operands
+    ensures { result ≡ operands_in instr }
+{
+    match instr {
+        Instr::Push(n) => Operands::Integer(n),
+        Instr::Load(word) => Operands::Word(word),
+        Instr::Prior(word) => Operands::Word(word),
+        Instr::Bound(n) => Operands::One(n),
+        Instr::LoadAt(word) => Operands::Word(word),
+        Instr::PriorAt(word) => Operands::Word(word),
+        Instr::Store(word) => Operands::Word(word),
+        Instr::StoreAt(word) => Operands::Word(word),
+        Instr::Jump(n) => Operands::One(n),
+        Instr::JumpZero(n) => Operands::One(n),
+        Instr::Frame(n) => Operands::One(n),
+        Instr::Drop(n) => Operands::One(n),
+        Instr::Text(n) => Operands::One(n),
+        Instr::Room(n) => Operands::One(n),
+        Instr::Put(n) => Operands::One(n),
+        Instr::There(n) => Operands::One(n),
+        Instr::Take(n) => Operands::One(n),
+        Instr::Call(a, p, n) => Operands::Three(a, p, n),
+        Instr::Enter(n) => Operands::One(n),
+        Instr::Start(n) => Operands::One(n),
+        Instr::Test(n) => Operands::One(n),
+        Instr::Range(m, n) => Operands::Two(m, n),
+        Instr::Again(m, n) => Operands::Two(m, n),
+        Instr::Counter(n) => Operands::One(n),
+        Instr::Absent(m, n) => Operands::Two(m, n),
+        _ => Operands::Nothing,
     }
 }
 

@@ -1,6 +1,7 @@
 use Rattle.std.proofs.Common.{refl}
+use Rattle.std.proofs.lemmas.Result.{IfOk-weaker}
 use Rattle.rb_draft.proofs.Emits.{frame_row}
 use Rattle.rb_draft.proofs.frames.put_frame.Goals as goal
 
-pub returns-then-words-ne0 : goal.returns-then-words-ne0
-returns-then-words-ne0 c = frame_row c.args.words c.if-words-ne0.true (c.in_ok-put.ensures refl)
+pub returns : goal.returns
+returns c = IfOk-weaker c.put.result _ _ (λ _ h. frame_row c.args.words c.if-words-eq0.false (h refl)) c.put.ensures

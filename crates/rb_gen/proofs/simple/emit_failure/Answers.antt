@@ -1,6 +1,7 @@
 use Rattle.std.proofs.Common.{refl}
-use Rattle.rb_gen.proofs.Rows.{then_adds}
+use Rattle.rb_gen.proofs.Rows.{last_call, then_adds}
 use Rattle.rb_gen.proofs.simple.emit_failure.Goals as goal
 
 pub returns : goal.returns
-returns c = then_adds (c.in_ok-put.ensures refl) (c.in_ok-put-2.ensures refl)
+returns c =
+    last_call c.put-2.result c.put-2.ensures (λ h. then_adds (c.in_ok-put.ensures refl) (h refl))

@@ -11,6 +11,7 @@ use Rattle.rb_code.specs.Instructions.Plain.{Block as Entry}
 use Rattle.rb_code.specs.declared.instr.Instr.TheVariants.{Jump, JumpZero}
 use Rattle.rb_draft.specs.Output.{output, filled_with, patched}
 use Rattle.rb_gen.specs.Writes.{WritesAlternates}
+use Rattle.rb_gen.proofs.Rows.{last_call}
 use Rattle.rb_gen.proofs.StatementRows.{assigned, printing, sending, called, failed, received, received_else, branched, no_else, some_else, looped, same_command, no_command, one_command, body_row, else_row}
 use Rattle.rb_gen.proofs.RecoveryRows.{recovered, no_alternate, alternates_init, alternates_step, alternates_end}
 use Rattle.rb_gen.proofs.Slices.{none_left, split}
@@ -31,65 +32,65 @@ emit_statements-statements-preserved t c =
 
 pub emit_body-returns : goal.emit_body-returns
 emit_body-returns t c =
-    body_row c.args.slots.now c.args.words.now (map declaration c.args.block.now.vars.items)
+    last_call c.put_drop.result c.put_drop.ensures (λ h. body_row c.args.slots.now c.args.words.now (map declaration c.args.block.now.vars.items)
     (commands_of c.args.block.now.body.items) (ap commands_of c.deref-2.ensures.value)
     (c.in_ok-size.ensures
     ∙ ap (λ xs. frame_words
-    (frame_of (map declaration xs))) c.deref.ensures.value) c.in_ok-put_frame.ensures c.in_ok-emit_statements.ensures c.in_ok-put_drop.ensures
+    (frame_of (map declaration xs))) c.deref.ensures.value) c.in_ok-put_frame.ensures c.in_ok-emit_statements.ensures h)
 
 pub emit_else-returns : goal.emit_else-returns
 emit_else-returns t c =
     else_row c.args.slots.now c.args.words.now
     (body c.args.block.now) c.in_ok-skip.ensures c.in_ok-start.ensures c.in_ok-emit_body.ensures c.in_ok-end.ensures c.patch.ensures
 
-pub emit_statement-returns-in_ok-emit_assignment-in-Assign : goal.emit_statement-returns-in_ok-emit_assignment-in-Assign
-emit_statement-returns-in_ok-emit_assignment-in-Assign t c =
+pub emit_statement-returns-in-Assign : goal.emit_statement-returns-in-Assign
+emit_statement-returns-in-Assign t c =
     let is : command c.args.statement.now ≡ Assignment (reference c.in-Assign.target) (plain c.in-Assign.value) = grind (arith, trees) in
-    assigned c.args.slots.now c.args.words.now is c.in_ok-emit_assignment-in-Assign.ensures
+    last_call c.emit_assignment.result c.emit_assignment.ensures (λ h. assigned c.args.slots.now c.args.words.now is h)
 
-pub emit_statement-returns-in_ok-emit_printing-in-Print : goal.emit_statement-returns-in_ok-emit_printing-in-Print
-emit_statement-returns-in_ok-emit_printing-in-Print t c =
+pub emit_statement-returns-in-Print : goal.emit_statement-returns-in-Print
+emit_statement-returns-in-Print t c =
     let is : command c.args.statement.now ≡ Printing (map print_item c.deref.result.now) = grind (arith, trees) in
-    printing c.args.slots.now c.args.words.now is c.in_ok-emit_printing-in-Print.ensures
+    last_call c.emit_printing.result c.emit_printing.ensures (λ h. printing c.args.slots.now c.args.words.now is h)
 
-pub emit_statement-returns-in_ok-emit_sending-in-Send : goal.emit_statement-returns-in_ok-emit_sending-in-Send
-emit_statement-returns-in_ok-emit_sending-in-Send t c =
+pub emit_statement-returns-in-Send : goal.emit_statement-returns-in-Send
+emit_statement-returns-in-Send t c =
     let is : command c.args.statement.now ≡ Sending (identifier c.in-Send.channel) (plain c.in-Send.value) = grind (arith, trees) in
-    sending c.args.slots.now c.args.words.now is c.in_ok-emit_sending-in-Send.ensures
+    last_call c.emit_sending.result c.emit_sending.ensures (λ h. sending c.args.slots.now c.args.words.now is h)
 
-pub emit_statement-returns-in_ok-emit_call-in-Call : goal.emit_statement-returns-in_ok-emit_call-in-Call
-emit_statement-returns-in_ok-emit_call-in-Call t c =
+pub emit_statement-returns-in-Call : goal.emit_statement-returns-in-Call
+emit_statement-returns-in-Call t c =
     let is : command c.args.statement.now ≡ Invocation (identifier c.in-Call.procedure) (map plain c.deref-in-Call.result.now) =
     grind (arith, trees) in
-    called c.args.slots.now c.args.words.now is c.in_ok-emit_call-in-Call.ensures
+    last_call c.emit_call.result c.emit_call.ensures (λ h. called c.args.slots.now c.args.words.now is h)
 
-pub emit_statement-returns-in_ok-emit_failure-in-Fail : goal.emit_statement-returns-in_ok-emit_failure-in-Fail
-emit_statement-returns-in_ok-emit_failure-in-Fail t c =
+pub emit_statement-returns-in-Fail : goal.emit_statement-returns-in-Fail
+emit_statement-returns-in-Fail t c =
     let is : command c.args.statement.now ≡ Failure = grind (arith, trees) in
-    failed c.args.slots.now c.args.words.now is c.in_ok-emit_failure-in-Fail.ensures
+    last_call c.emit_failure.result c.emit_failure.ensures (λ h. failed c.args.slots.now c.args.words.now is h)
 
-pub emit_statement-returns-in_ok-emit_recovery-in-Recover : goal.emit_statement-returns-in_ok-emit_recovery-in-Recover
-emit_statement-returns-in_ok-emit_recovery-in-Recover t c =
+pub emit_statement-returns-in-Recover : goal.emit_statement-returns-in-Recover
+emit_statement-returns-in-Recover t c =
     let is : command c.args.statement.now ≡ Recovering (recovery_block c.in-Recover.recovery) = grind (arith, trees) in
-    same_command c.args.slots.now c.args.words.now is c.in_ok-emit_recovery-in-Recover.ensures
+    last_call c.emit_recovery.result c.emit_recovery.ensures (λ h. same_command c.args.slots.now c.args.words.now is h)
 
-pub emit_statement-returns-in_ok-emit_receipt-in-Receive : goal.emit_statement-returns-in_ok-emit_receipt-in-Receive
-emit_statement-returns-in_ok-emit_receipt-in-Receive t c =
+pub emit_statement-returns-in-Receive : goal.emit_statement-returns-in-Receive
+emit_statement-returns-in-Receive t c =
     let is : command c.args.statement.now
     ≡ Receiving (identifier c.in-Receive.channel) (reference c.in-Receive.target) (otherwise c.in-Receive.other) =
     grind (arith, trees) in
-    same_command c.args.slots.now c.args.words.now is c.in_ok-emit_receipt-in-Receive.ensures
+    last_call c.emit_receipt.result c.emit_receipt.ensures (λ h. same_command c.args.slots.now c.args.words.now is h)
 
-pub emit_statement-returns-in_ok-emit_loop-in-While : goal.emit_statement-returns-in_ok-emit_loop-in-While
-emit_statement-returns-in_ok-emit_loop-in-While t c =
+pub emit_statement-returns-in-While : goal.emit_statement-returns-in-While
+emit_statement-returns-in-While t c =
     let is : command c.args.statement.now ≡ Loop (plain c.in-While.test) (body c.in-While.block) = grind (arith, trees) in
-    same_command c.args.slots.now c.args.words.now is c.in_ok-emit_loop-in-While.ensures
+    last_call c.emit_loop.result c.emit_loop.ensures (λ h. same_command c.args.slots.now c.args.words.now is h)
 
-pub emit_statement-returns-in_ok-emit_otherwise-in-If : goal.emit_statement-returns-in_ok-emit_otherwise-in-If
-emit_statement-returns-in_ok-emit_otherwise-in-If t c =
+pub emit_statement-returns-in_ok-over-in-If : goal.emit_statement-returns-in_ok-over-in-If
+emit_statement-returns-in_ok-over-in-If t c =
     let is : command c.args.statement.now ≡ Conditional (plain c.in-If.test) (body c.in-If.block) (otherwise c.in-If.other) =
     grind (arith, trees) in
-    branched c.args.slots.now c.args.words.now is c.in_ok-over-in-If.ensures c.in_ok-emit_otherwise-in-If.ensures
+    last_call c.emit_otherwise.result c.emit_otherwise.ensures (λ h. branched c.args.slots.now c.args.words.now is c.in_ok-over-in-If.ensures h)
 
 pub emit_otherwise-returns : goal.emit_otherwise-returns
 emit_otherwise-returns t c = elim c.match-other.branch [
@@ -103,12 +104,12 @@ emit_otherwise-returns t c = elim c.match-other.branch [
       (subst (λ d. output c.patch.new.draft ≡ patched (output d) c.args.over (JumpZero c.match-other.no)) w.draft-is c.patch.ensures))
 ]
 
-pub emit_receipt-returns-in_ok-emit_taking-in-None : goal.emit_receipt-returns-in_ok-emit_taking-in-None
-emit_receipt-returns-in_ok-emit_taking-in-None t c =
+pub emit_receipt-returns-in_ok-put-in-None : goal.emit_receipt-returns-in_ok-put-in-None
+emit_receipt-returns-in_ok-put-in-None t c =
     let of = Receiving (identifier c.args.channel.now) (reference c.args.target.now) in
-    received c.args.slots.now c.args.words.now (ap of (ap otherwise c.in-None.is)) c.channel_of-number.ensures
+    last_call c.emit_taking.result c.emit_taking.ensures (λ h. received c.args.slots.now c.args.words.now (ap of (ap otherwise c.in-None.is)) c.channel_of-number.ensures
     (c.in_ok-put.ensures refl) (c.in_ok-put-in-None.ensures refl)
-    c.in_ok-emit_taking-in-None.ensures
+    h)
 
 pub emit_receipt-returns-in_ok-none-in-Some : goal.emit_receipt-returns-in_ok-none-in-Some
 emit_receipt-returns-in_ok-none-in-Some t c =
@@ -136,7 +137,7 @@ emit_recovery-returns t c =
       test = c.in_ok-test.test;
       alternates = addresses;
     } in
-    let before = output c.put-4.new.draft in
+    let before = output c.put_entry.new.draft in
     let behind = output c.emit_alternates.new.draft in
     let inside : WritesAlternates c.args.slots.now c.args.words.now (alternates_of r.alternates.items) addresses c.in_ok-test.test before behind =
     subst (λ xs. WritesAlternates c.args.slots.now c.args.words.now
@@ -147,9 +148,8 @@ emit_recovery-returns t c =
     recovered c.args.slots.now c.args.words.now r.number (option_map identifier r.conversation) r.place
     (plain r.test) r.bound (alternates_of r.alternates.items) entry
     (recovery_out c.args.recovery.now)
-    refl c.joined_of.ensures c.in_ok-bound.ensures (c.in_ok-put.ensures refl)
-    (c.in_ok-put-2.ensures refl) c.in_ok-restart.ensures (c.in_ok-put-3.ensures refl) (c.in_ok-put-4.ensures refl)
-    inside c.in_ok-test.ensures (c.in_ok-put-5.ensures refl) c.in_ok-emit_expression.ensures (c.in_ok-put-6.ensures refl) c.settle.ensures
+    refl c.joined_of.ensures c.in_ok-bound.ensures c.in_ok-restart.ensures inside c.in_ok-test.ensures c.in_ok-emit_acceptance.ensures
+    c.settle.ensures
 
 pub emit_alternates-returns : goal.emit_alternates-returns
 emit_alternates-returns t c =
@@ -165,10 +165,11 @@ emit_alternates-returns-in_default t c =
 
 pub emit_alternates-others-init : goal.emit_alternates-others-init
 emit_alternates-others-init t c =
-    alternates_init c.args.slots.now c.args.words.now _ c.in_ok-start.start _ _
-    (ap alternates_of (split c.args.alternates.now c.first-item.result c.in-len1-up.len_at_least c.first-item.is)) c.in_ok-start.ensures
-    (c.in_ok-push.ensures.items
-    ∙ ap (λ xs. xs ++ (c.in_ok-start.start ∷ [])) c.new-addresses.ensures.items) c.new-places.ensures.items c.in_ok-emit_body.ensures
+    alternates_init c.args.slots.now c.args.words.now _ (length c.args.draft.now.instrs.items) _ _
+    (ap alternates_of (split c.args.alternates.now c.first-item.result c.in-len1-up.len_at_least c.first-item.is)) refl
+    (c.in_ok-emit_alternate.ensures.address
+    ∙ ap (λ xs. xs ++ (length c.args.draft.now.instrs.items ∷ [])) c.new-addresses.ensures.items) c.new-places.ensures.items
+    c.in_ok-emit_alternate.ensures.code
 
 pub emit_alternates-others-preserved : goal.emit_alternates-others-preserved
 emit_alternates-others-preserved t c =
@@ -176,5 +177,12 @@ emit_alternates-others-preserved t c =
     let is : alternates_of (drop c.others.other-index others)
     ≡ Alternate (body c.other-item.result) (alternates_of (drop (c.others.other-index + 1) others)) =
     grind (arith, common_steps) in
-    alternates_step c.args.slots.now c.args.words.now _ c.in_ok-start-2.start c.in_ok-place.place _ _ _ _ is c.in_ok-place.ensures c.in_ok-start-2.ensures
-    c.in_ok-emit_body-2.ensures c.in_ok-push-3.ensures.items c.in_ok-push-2.ensures.items c.others.invariant
+    alternates_step c.args.slots.now c.args.words.now _ (length c.leave.new.draft.instrs.items) c.in_ok-place.place _ _ _ _ is c.in_ok-place.ensures
+    refl c.in_ok-emit_alternate-2.ensures.code c.in_ok-emit_alternate-2.ensures.address c.in_ok-push.ensures.items c.others.invariant
+
+pub emit_alternate-returns : goal.emit_alternate-returns
+emit_alternate-returns t c = record {
+  address = last_call c.emit_body.result c.emit_body.ensures (λ _.
+      c.in_ok-push.ensures.items ∙ ap (λ (start : ℕ). c.args.addresses.now.items ++ (start ∷ [])) c.in_ok-start.ensures);
+  code = c.emit_body.ensures;
+}
