@@ -14,6 +14,8 @@ mod fault_tests;
 #[cfg(test)]
 mod image_rows;
 #[cfg(test)]
+mod judge_tests;
+#[cfg(test)]
 mod parse_rows;
 #[cfg(test)]
 mod process_tests;
