@@ -6,8 +6,6 @@ mod calls;
 #[cfg(test)]
 mod command_tests;
 #[cfg(test)]
-mod ending_tests;
-#[cfg(test)]
 mod environment_tests;
 #[cfg(test)]
 mod fault_tests;
@@ -22,7 +20,7 @@ mod process_tests;
 #[cfg(test)]
 mod record_tests;
 #[cfg(test)]
-mod run_tests;
+mod rows;
 #[cfg(test)]
 mod trial_tests;
 #[cfg(test)]
