@@ -2,8 +2,8 @@
 """Runs the proved programs, as each of the two compilers built them, on worked rows and at the limits of the language, and compares what comes.
 
 The rows stand in bench/runs/*.rows. There `=== TITLE` begins a row, `$ WORDS` are its words, `--- NAME` begins the text of a file, and `--- STATUS`
-what is written, with the status. A file's text has no newline at its end, but where an empty line ends it; ␍ stands for a carriage return. What
-reaches a limit is made by limit_runs.py. The rows of views.rows are of `rblview`, all others of `rbl`. Status 1 only where a program stands built and
+what is written, with the status. A file's text has no newline at its end, but where an empty line ends it; ␍ stands for a carriage return, and ␡ for
+the byte 7f. What reaches a limit is made by limit_runs.py. The rows of views.rows are of `rblview`, all others of `rbl`. Status 1 only where a program stands built and
 one of the runs comes out otherwise. RBL and RBLVIEW may name other programs.
 """
 import glob
@@ -18,7 +18,7 @@ sys.dont_write_bytecode = True
 from limit_runs import Parts, Run, made_runs
 
 ROOT = os.path.dirname(os.path.dirname(os.path.abspath(__file__)))
-LEAST = 700
+LEAST = 750
 
 
 def programs(name):
@@ -35,7 +35,7 @@ def row_of(table, text):
     title, words = head.rstrip("\n").split("\n$ ")
     texts = dict(zip(parts[::2], parts[1::2]))
     status, written = texts.popitem()
-    files = {name: it.removesuffix("\n").replace("␍", "\r") for name, it in texts.items()}
+    files = {name: it.removesuffix("\n").replace("␍", "\r").replace("␡", "\x7f") for name, it in texts.items()}
     return Run(f"{table}: {title}", shlex.split(words), files, int(status), written)
 
 

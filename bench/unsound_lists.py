@@ -63,7 +63,7 @@ BLOCK = build(entered(0) + "done")
 PAIR = conversing([None])
 SIBLINGS = conversing([None, None])
 INNER = conversing([None, 0], nested=True)
-BAD_NAMES = [b"", b"1x", b"x-y", b"x y", b"x\xe4", b"x" * 65, b"while", b"every"]
+BAD_NAMES = [b"", b"1x", b"x-y", b"x y", b"x\xe4", b"x" * 65, b"while", b"every", b"sum"]
 
 CHANGES = {
     "processes": (PLAIN, [

@@ -1,8 +1,8 @@
 //! Tests of the cache, by steps at random beside whole copies of the words, and at the limits.
 
-ghost use Rattle.std.specs.Prelude.{◌≡◌, ℕ, ◌<◌, ◌≤◌, ◌↔◌, IsTrue, All, length, map};
+ghost use Rattle.std.specs.Prelude.{◌≡◌, ℕ, ◌<◌, ◌≤◌, ◌↔◌, [], ◌∷◌, IsTrue, All, length, map};
 ghost use Rattle.std.specs.Vec.{vec_items};
-ghost use Rattle.rb_cache.specs.Copies.{copies, copy_at, open_levels, Fits};
+ghost use Rattle.rb_cache.specs.Copies.{copies, copy_at, entered, open_levels, Fits};
 
 use rb_base::{Memory, Steps};
 use rb_cache::Cache;
@@ -140,6 +140,17 @@ impl<L: Ledger> Trial<L> {
         }
     }
 
+    /// After each of so many steps they are the same.
+    fn agrees_each_time(&mut self, alloc: Global, steps: u32) -> bool {
+        let mut random = Random { state: 1_974 };
+        for _ in 0..steps {
+            if self.step(alloc, &mut random).is_err() || !self.agrees() {
+                return false;
+            }
+        }
+        true
+    }
+
     /// The words and all copies are those that are kept beside them.
     fn agrees(&mut self) -> bool {
         self.words.len() == self.cells.height() as usize
@@ -205,24 +216,39 @@ fn has_words<L: Ledger>(words: &[i64], cells: &Cells<L>, steps: &mut Steps<L>) -
     true
 }
 
-fn run<L: Ledger>(alloc: Global, blank: Blank) -> Result<u32, Memory>
+fn run<L: Ledger>(alloc: Global, blank: Blank) -> bool
     requires name { blank.name ≡ L.name }
     requires parts { blank.parts ≡ L.parts }
     requires backed { 0 < blank.parts }
 {
-    let mut trial = Trial::<L>::new(alloc, blank)?;
-    let mut random = Random { state: 1_974 };
-    let mut agreed = 0;
-    for _ in 0..10_000 {
-        trial.step(alloc, &mut random)?;
-        if trial.agrees() {
-            agreed = 1_u32.saturating_add(agreed);
-        }
+    match Trial::<L>::new(alloc, blank) {
+        Ok(mut trial) => trial.agrees_each_time(alloc, 10_000),
+        Err(_) => false,
     }
-    Ok(agreed)
 }
 
-// The first of so many levels over so many words, written, read and rejected.
+// In the only level: what is read of a word once 7 was written there, what it was before, and how many words there are once that is
+// undone.
+fn written_and_undone<L: Ledger>(
+    cells: &mut Cells<L>,
+    cache: &mut Cache,
+    at: u32,
+    steps: &mut Steps<L>,
+) -> [i64; 3]
+    requires fits { Fits cells.old.words cache.old }
+    requires copies { copies cells.old.words cache.old ≡ cells.old.words ∷ [] }
+    requires levels { open_levels cache.old ≡ entered (length cells.old.words) ∷ [] }
+    requires at { at < length cells.old.words }
+    requires within { at < cache.old.limits.words }
+{
+    cache.write(cells, at, 7, steps);
+    let present = cells.read(at, steps);
+    let prior = cache.prior(cells, at, steps);
+    cache.reject(cells, steps);
+    [present, prior, i64::from(cells.height())]
+}
+
+// The first of so many levels over so many words, of which the last one is written.
 fn at_the_limits<L: Ledger>(
     alloc: Global,
     blank: Blank,
@@ -240,23 +266,20 @@ fn at_the_limits<L: Ledger>(
     let mut cache = Cache::new(alloc, levels, words)?;
     cells.push_zeros(words, &mut steps);
     cache.open(&cells);
-    cache.write(&mut cells, words - 1, 7, &mut steps);
-    let present = cells.read(words - 1, &mut steps);
-    let prior = cache.prior(&cells, words - 1, &mut steps);
-    cache.reject(&mut cells, &mut steps);
-    Ok([present, prior, i64::from(cells.height())])
+    Ok(written_and_undone(&mut cells, &mut cache, words - 1, &mut steps))
 }
 
 /// As many levels as a process may have, over as many words as it may have: 4,096 of variables, a cursor for each of
 /// 64 channels, and the length of its held lines.
 #[test]
 fn limits(rt: HostRuntime) {
-    let seen = at_the_limits::<Brand>(rt.alloc(), Blank::new(1), 32, 4_161);
-    assert!(rt; seen == Ok([7, 0, 4_161]));
+    let Ok(seen) = at_the_limits::<Brand>(rt.alloc(), Blank::new(1), 32, 4_161) else {
+        panic!(rt; "memory");
+    };
+    assert!(rt; seen == [7, 0, 4_161]);
 }
 
 #[test]
 fn whole_copies(rt: HostRuntime) {
-    let agreed = run::<Brand>(rt.alloc(), Blank::new(1));
-    assert!(rt; agreed == Ok(10_000));
+    assert!(rt; run::<Brand>(rt.alloc(), Blank::new(1)));
 }

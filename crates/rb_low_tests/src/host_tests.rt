@@ -1,7 +1,7 @@
 //! Files of the host that are read, and output to terminals that take few bytes at a time.
 
 use crate::pieces::answers;
-use rb_outside::{Failed, HostShelf, HostSink, put_all};
+use rb_outside::{HostShelf, HostSink, put_all};
 use std::cell::Cell;
 use std::fmt::Display;
 use std::{fs, io};
@@ -13,16 +13,18 @@ const NAME: &str = "rb_outside_test_file";
 fn files_are_read(rt: HostRuntime) {
     assert!(rt; fs::write(&rt, NAME, "abcde").is_ok());
     let mut shelf = HostShelf::new(&rt);
-    assert!(rt; answers(&mut shelf, "no such file") == [Err(Failed); 4]);
-    assert!(rt; answers(&mut shelf, NAME) == [Ok(0), Ok(4), Ok(1), Ok(0)]);
-    assert!(rt; answers(&mut shelf, "/") == [Ok(0), Err(Failed), Err(Failed), Err(Failed)]);
+    assert!(rt;
+        answers(&mut shelf, "no such file", b"xxxx")
+            && answers(&mut shelf, NAME, b"0410")
+            && answers(&mut shelf, "/", b"0xxx")
+    );
     assert!(rt; fs::remove_file(&rt, NAME).is_ok());
 }
 
 #[test]
 fn line_is_written(rt: HostRuntime) {
     let mut sink = HostSink::new(&rt);
-    assert!(rt; put_all(&mut sink, b"a line\n") == Ok(()));
+    assert!(rt; put_all(&mut sink, b"a line\n").is_ok());
 }
 
 // A terminal that takes two bytes at a time, and so many in all.
@@ -51,18 +53,16 @@ impl Print for Narrow {
     }
 }
 
-// Whether a terminal with this room answers so to five bytes, and is left with so much room.
-fn answers_so(room: usize, want: Result<(), Failed>, left: usize) -> bool {
+// Whether a terminal with this room takes five bytes or not, and is left with so much room.
+fn answers_so(room: usize, goes_well: bool, left: usize) -> bool {
     let narrow = Narrow {
         free: Cell::new(room),
     };
     let answer = put_all(&mut HostSink::new(&narrow), b"abcde");
-    answer == want && narrow.free.get() == left
+    answer.is_ok() == goes_well && narrow.free.get() == left
 }
 
 #[test]
 fn short_writes_go_on(rt: HostRuntime) {
-    assert!(rt; answers_so(9, Ok(()), 4));
-    assert!(rt; answers_so(5, Ok(()), 0));
-    assert!(rt; answers_so(4, Err(Failed), 0));
+    assert!(rt; answers_so(9, true, 4) && answers_so(5, true, 0) && answers_so(4, false, 0));
 }

@@ -1,5 +1,5 @@
 //! Tests of crates below the machine: files and sinks, schedules and trials, words, caches, slots and held lines, the table of
-//! conversations, tokens, verdicts, listings and printed lines.
+//! conversations, tokens, listings and printed lines.
 #![tactic(auto)]
 
 #[cfg(test)]
@@ -15,15 +15,11 @@ mod hold_tests;
 #[cfg(test)]
 mod host_tests;
 #[cfg(test)]
-mod judge_tests;
-#[cfg(test)]
 mod lexer_tests;
 #[cfg(test)]
 mod line_samples;
 #[cfg(test)]
 mod listing_tests;
-#[cfg(test)]
-mod lists_tests;
 #[cfg(test)]
 mod mail_tests;
 #[cfg(test)]
@@ -32,6 +28,8 @@ mod make_tests;
 mod names;
 #[cfg(test)]
 mod pieces;
+#[cfg(test)]
+mod rows;
 #[cfg(test)]
 mod samples;
 #[cfg(test)]

@@ -5,6 +5,7 @@ ghost use Rattle.rb_base.specs.Lines.{belonging, without_next};
 
 use crate::samples::{Ended, Queue};
 use rb_base::{Final, Lines, State, Steps};
+use std::alloc::Global;
 use std::marker::{Brand, PhantomData};
 use std::sync::ledger::{Blank, Ledger};
 
@@ -20,16 +21,25 @@ fn next_length<M: Lines>(lines: &mut M) -> Option<usize>
     }
 }
 
+const TEXTS: &[&[u8]] = &[b"", b"two words", b"three"];
+
+fn lends_each(alloc: Global) -> bool {
+    match Queue::new(alloc, TEXTS, 7) {
+        Ok(mut queue) => {
+            next_length(&mut queue) == Some(0)
+                && next_length(&mut queue) == Some(9)
+                && next_length(&mut queue) == Some(5)
+                && next_length(&mut queue).is_none()
+                && next_length(&mut queue).is_none()
+                && queue.mark == 7
+        }
+        Err(_) => false,
+    }
+}
+
 #[test]
 fn lends_each_line_once(rt: HostRuntime) {
-    let texts = [b"".as_slice(), b"two words", b"three"];
-    let mut queue = Queue::new(rt.alloc(), &texts, 7).expect(&rt, "memory");
-    assert!(rt; next_length(&mut queue) == Some(0));
-    assert!(rt; next_length(&mut queue) == Some(9));
-    assert!(rt; next_length(&mut queue) == Some(5));
-    assert!(rt; next_length(&mut queue).is_none());
-    assert!(rt; next_length(&mut queue).is_none());
-    assert!(rt; queue.mark == 7);
+    assert!(rt; lends_each(rt.alloc()));
 }
 
 // Word 0 of process 0, and what was sent on channel 0.
@@ -65,5 +75,5 @@ fn tells_the_end(rt: HostRuntime) {
         ledger: PhantomData,
     };
     let (state, word, sent) = numbers_of(Blank::new(1), &end);
-    assert!(rt; state == State::Running(2) && word == -3 && sent == 4);
+    assert!(rt; matches!(state, State::Running(2)) && word == -3 && sent == 4);
 }

@@ -58,6 +58,9 @@ fn small_code(alloc: Global) -> Result<Code, Memory> {
     })
 }
 
+const LISTED: &[u8] =
+    b"process p\n0 push -1\n1 store g 0\nprocess \n2 text \"x\"\n3 load l 7\n4 text \"\"\n5 jump 4294967295\n";
+
 // Whether the listing, with this room for it, goes so and leaves these bytes.
 fn is_listed(alloc: Global, code: &Code, room: usize, goes_well: bool, bytes: &[u8]) -> bool {
     match MemorySink::new(alloc, room, Vec::new(alloc)) {
@@ -66,18 +69,17 @@ fn is_listed(alloc: Global, code: &Code, room: usize, goes_well: bool, bytes: &[
     }
 }
 
+fn lists(alloc: Global) -> bool {
+    match small_code(alloc) {
+        Ok(code) => {
+            is_listed(alloc, &code, 128, true, LISTED)
+                && is_listed(alloc, &code, 15, false, b"process p\n0 pus")
+        }
+        Err(_) => false,
+    }
+}
+
 #[test]
 fn lists_what_names_nothing(rt: HostRuntime) {
-    let alloc = rt.alloc();
-    let code = small_code(alloc).expect(&rt, "memory");
-    assert!(rt;
-        is_listed(
-            alloc,
-            &code,
-            128,
-            true,
-            b"process p\n0 push -1\n1 store g 0\nprocess \n2 text \"x\"\n3 load l 7\n4 text \"\"\n5 jump 4294967295\n"
-        )
-    );
-    assert!(rt; is_listed(alloc, &code, 15, false, b"process p\n0 pus"));
+    assert!(rt; lists(rt.alloc()));
 }

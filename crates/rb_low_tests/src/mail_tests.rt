@@ -26,13 +26,6 @@ fn keeps_each(alloc: Global, size: u32) -> bool
         && keeps_next(&mut mail, size, 1 << 40, 7)
 }
 
-#[test]
-fn slots_at_the_limits(rt: HostRuntime) {
-    assert!(rt; keeps_each(rt.alloc(), 1));
-    assert!(rt; keeps_each(rt.alloc(), 2));
-    assert!(rt; keeps_each(rt.alloc(), 65_536));
-}
-
 // What three slots hold, once two and then a third value were put.
 fn held(mail: &mut Mail) -> [[i64; 3]; 2] {
     mail.put(4, 40);
@@ -42,12 +35,22 @@ fn held(mail: &mut Mail) -> [[i64; 3]; 2] {
     [two, [mail.get(3), mail.get(4), mail.get(5)]]
 }
 
+fn hold_their_own(alloc: Global) -> bool {
+    match Mail::new(alloc, 3) {
+        Ok(mut mail) => held(&mut mail) == [[0, 40, 50], [0, 70, 50]],
+        Err(_) => false,
+    }
+}
+
 #[test]
-fn slots_hold_their_own(rt: HostRuntime) {
-    let Ok(mut mail) = Mail::new(rt.alloc(), 3) else {
-        panic!(rt; "memory");
-    };
-    assert!(rt; held(&mut mail) == [[0, 40, 50], [0, 70, 50]]);
+fn slots_keep_values(rt: HostRuntime) {
+    let alloc = rt.alloc();
+    assert!(rt;
+        keeps_each(alloc, 1)
+            && keeps_each(alloc, 2)
+            && keeps_each(alloc, 65_536)
+            && hold_their_own(alloc)
+    );
 }
 
 // So many channels of so many slots.
@@ -85,13 +88,18 @@ fn each_keeps_its_own(mails: &Mails, many: u32) -> bool
     true
 }
 
+fn keep_their_own(alloc: Global, many: u32) -> bool {
+    match channels(alloc, many, MOST_CHANNEL_SIZE) {
+        Ok(mut mails) => {
+            put_each(&mut mails, many);
+            each_keeps_its_own(&mails, many)
+        }
+        Err(_) => false,
+    }
+}
+
 #[test]
 fn as_many_channels_as_there_may_be(rt: HostRuntime) {
-    let many = MOST_CONNECTIONS as u32;
-    let Ok(mut mails) = channels(rt.alloc(), many, MOST_CHANNEL_SIZE) else {
-        panic!(rt; "memory");
-    };
-    put_each(&mut mails, many);
-    assert!(rt; each_keeps_its_own(&mails, many));
-    assert!(rt; Mails::none(rt.alloc()).len() == 0);
+    let alloc = rt.alloc();
+    assert!(rt; keep_their_own(alloc, MOST_CONNECTIONS as u32) && Mails::none(alloc).len() == 0);
 }

@@ -19,19 +19,6 @@ print x; } }
 end.
 ";
 
-// Whether a trial has these texts.
-fn is_made(alloc: Global, number: u64, source: &[u8], schedule: &[u8]) -> bool {
-    match make(alloc, number) {
-        Ok(texts) => texts.0.as_slice() == source && texts.1.as_slice() == schedule,
-        Err(_) => false,
-    }
-}
-
-#[test]
-fn makes_the_smallest(rt: HostRuntime) {
-    assert!(rt; is_made(rt.alloc(), 0, SOURCE_0, b"all 76\n"));
-}
-
 const END_OF_SOURCE_30: &[u8] = b"else by { receive c30 x; send c31 x; } else error;
 print x; } }
 process p32 { var i; var x;
@@ -45,19 +32,23 @@ end.
 // Whether a trial has a source of this length and with this end, and this schedule.
 fn ends_as(alloc: Global, number: u64, length: usize, end: &[u8], schedule: &[u8]) -> bool {
     match make(alloc, number) {
-        Ok(texts) => {
-            texts.0.len() == length
-                && texts.0.as_slice().ends_with(end)
-                && texts.1.as_slice() == schedule
+        Ok((source, made)) => {
+            source.len() == length
+                && source.as_slice().ends_with(end)
+                && made.as_slice() == schedule
         }
         Err(_) => false,
     }
 }
 
 #[test]
-fn makes_larger_ones(rt: HostRuntime) {
-    assert!(rt; ends_as(rt.alloc(), 30, 7838, END_OF_SOURCE_30, b"all 316\n"));
-    assert!(rt; ends_as(rt.alloc(), 34, 1215, b"", b"all 200\n"));
-    assert!(rt; ends_as(rt.alloc(), 1549, 7870, b"", b"all 15800\n"));
-    assert!(rt; ends_as(rt.alloc(), u64::MAX, 4133, b"", b"all 196\n"));
+fn makes_texts(rt: HostRuntime) {
+    let alloc = rt.alloc();
+    assert!(rt; ends_as(alloc, 0, SOURCE_0.len(), SOURCE_0, b"all 76\n"));
+    assert!(rt;
+        ends_as(alloc, 30, 7838, END_OF_SOURCE_30, b"all 316\n")
+            && ends_as(alloc, 34, 1215, b"", b"all 200\n")
+            && ends_as(alloc, 1549, 7870, b"", b"all 15800\n")
+            && ends_as(alloc, u64::MAX, 4133, b"", b"all 196\n")
+    );
 }

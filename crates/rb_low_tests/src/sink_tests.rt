@@ -3,53 +3,59 @@
 ghost use Rattle.std.specs.Prelude.{◌<◌};
 
 use crate::pieces::answers;
-use rb_outside::{
-    Buffered, Failed, Memory, MemoryShelf, MemorySink, Shelf, Sink, put_all, put_number,
-};
+use crate::rows::cut;
+use rb_outside::{Buffered, Memory, MemoryShelf, MemorySink, Shelf, Sink, put_all, put_number};
 use std::alloc::{AllocError, Global};
-
-fn copied(alloc: Global, name: &[u8], bytes: &[u8]) -> Result<(Vec<u8>, Vec<u8>), AllocError> {
-    Ok((
-        Vec::from_slice(alloc, name)?,
-        Vec::from_slice(alloc, bytes)?,
-    ))
-}
 
 // Two files, and a third with the name of the first; of the calls the one with this number fails.
 fn shelf(alloc: Global, failing: u64, most: usize) -> Result<MemoryShelf, AllocError>
     requires { 0 < most }
 {
+    let mut rest = b"a~abcde~empty~~a~other~".as_slice();
     let mut files = Vec::new(alloc);
-    files.push(copied(alloc, b"a", b"abcde")?)?;
-    files.push(copied(alloc, b"empty", b"")?)?;
-    files.push(copied(alloc, b"a", b"other")?)?;
+    for _ in 0..3 {
+        let (name, after) = cut(rest);
+        let (text, after) = cut(after);
+        files.push((Vec::from_slice(alloc, name)?, Vec::from_slice(alloc, text)?))?;
+        rest = after;
+    }
     let failing = Vec::from_slice(alloc, &[failing])?;
     Ok(MemoryShelf::limited(files, failing, most))
 }
 
-fn gives(
-    alloc: Global,
-    name: &str,
-    failing: u64,
-    most: usize,
-    want: [Result<usize, Failed>; 4],
-) -> bool
+fn gives(alloc: Global, name: &str, failing: u64, most: usize, want: &[u8]) -> bool
     requires { 0 < most }
 {
     match shelf(alloc, failing, most) {
-        Ok(mut shelf) => answers(&mut shelf, name) == want,
+        Ok(mut shelf) => answers(&mut shelf, name, want),
         Err(_) => false,
     }
 }
 
+fn gives_each(alloc: Global) -> bool {
+    gives(alloc, "a", 9, 9, b"0410")
+        && gives(alloc, "a", 2, 1, b"01x1")
+        && gives(alloc, "a", 0, 1, b"xxxx")
+        && gives(alloc, "empty", 1, 1, b"0x00")
+        && gives(alloc, "other", 9, 9, b"xxxx")
+}
+
+// However many starts there were, the next one goes well.
+fn starts_go_on(alloc: Global) -> bool {
+    let Ok(mut shelf) = shelf(alloc, u64::MAX, usize::MAX) else {
+        return false;
+    };
+    for _ in 0..1_000 {
+        if shelf.start("a").is_err() {
+            return false;
+        }
+    }
+    answers(&mut shelf, "a", b"0410")
+}
+
 #[test]
 fn shelf_answers(rt: HostRuntime) {
-    let alloc = rt.alloc();
-    assert!(rt; gives(alloc, "a", 9, 9, [Ok(0), Ok(4), Ok(1), Ok(0)]));
-    assert!(rt; gives(alloc, "a", 2, 1, [Ok(0), Ok(1), Err(Failed), Ok(1)]));
-    assert!(rt; gives(alloc, "a", 0, 1, [Err(Failed); 4]));
-    assert!(rt; gives(alloc, "empty", 1, 1, [Ok(0), Err(Failed), Ok(0), Ok(0)]));
-    assert!(rt; gives(alloc, "other", 9, 9, [Err(Failed); 4]));
+    assert!(rt; gives_each(rt.alloc()) && starts_go_on(rt.alloc()));
 }
 
 // A sink of which the call with this number fails.
@@ -60,27 +66,28 @@ fn sink(alloc: Global, room: usize, failing: u64, most: usize) -> Result<MemoryS
     MemorySink::limited(alloc, room, failing, most)
 }
 
-fn put_three(sink: &mut MemorySink) -> [Result<(), Failed>; 3] {
+// Which of three puts go well.
+fn put_three(sink: &mut MemorySink) -> [bool; 3] {
     [
-        put_all(sink, b"ab"),
-        put_number(sink, -170),
-        put_all(sink, b"end"),
+        put_all(sink, b"ab").is_ok(),
+        put_number(sink, -170).is_ok(),
+        put_all(sink, b"end").is_ok(),
     ]
 }
 
-// Whether a sink answers so to three puts, and then has these bytes.
+// Whether a sink takes these of three puts, and then has these bytes.
 fn takes(
     alloc: Global,
     room: usize,
     failing: u64,
     most: usize,
-    want: [Result<(), Failed>; 3],
+    well: [bool; 3],
     bytes: &[u8],
 ) -> bool
     requires { 0 < most }
 {
     match sink(alloc, room, failing, most) {
-        Ok(mut sink) => put_three(&mut sink) == want && sink.bytes() == bytes,
+        Ok(mut sink) => put_three(&mut sink) == well && sink.bytes() == bytes,
         Err(_) => false,
     }
 }
@@ -88,53 +95,44 @@ fn takes(
 #[test]
 fn sink_answers(rt: HostRuntime) {
     let alloc = rt.alloc();
-    assert!(rt; takes(alloc, 9, 9, 9, [Ok(()); 3], b"ab-170end"));
-    assert!(rt; takes(alloc, 9, 9, 1, [Ok(()); 3], b"ab-170end"));
-    assert!(rt; takes(alloc, 4, 9, 9, [Ok(()), Err(Failed), Err(Failed)], b"ab-1"));
-    assert!(rt; takes(alloc, 9, 1, 9, [Ok(()), Err(Failed), Ok(())], b"abend"));
-    assert!(rt; takes(alloc, 9, 4, 1, [Ok(()), Err(Failed), Ok(())], b"ab-1end"));
-    assert!(rt; takes(alloc, 0, 0, 9, [Err(Failed); 3], b""));
+    assert!(rt;
+        takes(alloc, 9, 9, 9, [true, true, true], b"ab-170end")
+            && takes(alloc, 9, 9, 1, [true, true, true], b"ab-170end")
+            && takes(alloc, 4, 9, 9, [true, false, false], b"ab-1")
+            && takes(alloc, 9, 1, 9, [true, false, true], b"abend")
+            && takes(alloc, 9, 4, 1, [true, false, true], b"ab-1end")
+            && takes(alloc, 0, 0, 9, [false, false, false], b"")
+    );
 }
 
-fn starts_often(shelf: &mut MemoryShelf) -> bool {
-    for _ in 0..1_000 {
-        if shelf.start("a").is_err() {
-            return false;
-        }
-    }
-    true
-}
-
-// However many starts there were, the next one goes well.
-#[test]
-fn starts_go_on(rt: HostRuntime) {
-    let mut shelf = shelf(rt.alloc(), u64::MAX, usize::MAX).expect(&rt, "memory");
-    assert!(rt; starts_often(&mut shelf));
-    assert!(rt; answers(&mut shelf, "a") == [Ok(0), Ok(4), Ok(1), Ok(0)]);
-}
-
-fn buffered(alloc: Global) -> Result<Buffered<MemorySink>, Memory> {
-    let sink = sink(alloc, 6, 1, usize::MAX)?;
-    Buffered::new(alloc, sink)
-}
-
-// Whether a text is taken, the flush after it answers so, and the sink has these bytes then.
+// Whether a text is taken, the flush after it goes so, and the sink has these bytes then.
 fn passes_on(
     buffered: &mut Buffered<MemorySink>,
     text: &[u8],
-    flushed: Result<(), Failed>,
+    goes_well: bool,
     want: &[u8],
 ) -> bool {
-    put_all(buffered, text) == Ok(())
-        && buffered.flush() == flushed
+    put_all(buffered, text).is_ok()
+        && buffered.flush().is_ok() == goes_well
         && buffered.sink().bytes() == want
+}
+
+fn goes_on(alloc: Global) -> bool {
+    let Ok(sink) = sink(alloc, 6, 1, usize::MAX) else {
+        return false;
+    };
+    match Buffered::new(alloc, sink) {
+        Ok(mut buffered) => {
+            passes_on(&mut buffered, b"ab", true, b"ab")
+                && passes_on(&mut buffered, b"cd", false, b"ab")
+                && passes_on(&mut buffered, b"ef", true, b"abcdef")
+                && passes_on(&mut buffered, b"gh", false, b"abcdef")
+        }
+        Err(_) => false,
+    }
 }
 
 #[test]
 fn buffer_passes_on(rt: HostRuntime) {
-    let mut buffered = buffered(rt.alloc()).expect(&rt, "memory");
-    assert!(rt; passes_on(&mut buffered, b"ab", Ok(()), b"ab"));
-    assert!(rt; passes_on(&mut buffered, b"cd", Err(Failed), b"ab"));
-    assert!(rt; passes_on(&mut buffered, b"ef", Ok(()), b"abcdef"));
-    assert!(rt; passes_on(&mut buffered, b"gh", Err(Failed), b"abcdef"));
+    assert!(rt; goes_on(rt.alloc()));
 }

@@ -6,6 +6,12 @@ use rb_outside::{MemoryShelf, MemorySink};
 use rb_top::{Status, Words, command};
 use std::alloc::{AllocError, Global};
 
+/// A source that writes `x 1`, and the value of its variable.
+pub(crate) const SOURCE: &[u8] = b"program a; process p { var x; x := 1; print \"x\", x; } end.";
+
+/// A schedule on which it is done.
+pub(crate) const SCHEDULE: &[u8] = b"p 2";
+
 /// What stands in the way of a call: the calls of the shelf and of the sink that fail, how much room the sink has, and how
 /// many bytes a call of the shelf and of the sink moves at most.
 #[derive(Clone, Copy)]
@@ -17,19 +23,33 @@ pub(crate) struct Outside {
     pub(crate) most_written: usize,
 }
 
-/// No call fails, and the sink has this room.
-pub(crate) fn roomy(room: usize) -> Outside {
+/// These calls of the shelf and of the sink fail, and the sink has this room.
+pub(crate) fn outside(bad_read: u64, bad_write: u64, room: usize) -> Outside {
     Outside {
-        bad_read: u64::MAX,
-        bad_write: u64::MAX,
+        bad_read,
+        bad_write,
         room,
         most_read: usize::MAX,
         most_written: usize::MAX,
     }
 }
 
+/// No call fails, and the sink has this room.
+pub(crate) fn roomy(room: usize) -> Outside {
+    outside(u64::MAX, u64::MAX, room)
+}
+
 /// The name of a file, and its text.
 pub(crate) type File<'a> = (&'a [u8], &'a [u8]);
+
+/// That source and schedule, a record, a session and a history.
+pub(crate) const FILES: &[File<'static>] = &[
+    (b"a", SOURCE),
+    (b"b", SCHEDULE),
+    (b"r", b"1 p\n2 p"),
+    (b"s", b"show p\nstep 2\nshow p"),
+    (b"h", b"process p\npoint p\nfail p"),
+];
 
 /// A shelf with these files.
 pub(crate) fn shelf_of(
@@ -57,10 +77,10 @@ pub(crate) fn sink_of(alloc: Global, room: usize, failing: u64, most: usize) -> 
     MemorySink::limited(alloc, room, failing, most).ok()
 }
 
-/// A list of words.
-pub(crate) fn words_of(alloc: Global, line: &[&str]) -> Option<Words> {
+/// The words of a line.
+pub(crate) fn words_of(alloc: Global, line: &str) -> Option<Words> {
     let mut words = Words::new(alloc);
-    for word in line {
+    for word in line.split(' ') {
         words.push(word).ok()?;
     }
     Some(words)
@@ -69,7 +89,7 @@ pub(crate) fn words_of(alloc: Global, line: &[&str]) -> Option<Words> {
 /// How the call of these words ends, and the sink after it.
 pub(crate) fn called(
     alloc: Global,
-    line: &[&str],
+    line: &str,
     files: &[File<'_>],
     outside: &Outside,
 ) -> Option<(Status, MemorySink)> {
@@ -86,7 +106,7 @@ pub(crate) fn called(
 /// Whether the call ends so, and writes this text.
 pub(crate) fn writes(
     alloc: Global,
-    line: &[&str],
+    line: &str,
     files: &[File<'_>],
     outside: &Outside,
     status: Status,
@@ -96,20 +116,4 @@ pub(crate) fn writes(
         Some((ended, sink)) => ended == status && sink.bytes() == want,
         None => false,
     }
-}
-
-/// A piece so many times between two texts.
-pub(crate) fn repeated(
-    alloc: Global,
-    before: &str,
-    piece: &str,
-    count: usize,
-    after: &str,
-) -> Result<String, AllocError> {
-    let mut text = String::from_str(alloc, before)?;
-    for _ in 0..count {
-        text.push_str(piece)?;
-    }
-    text.push_str(after)?;
-    Ok(text)
 }

@@ -1,73 +1,93 @@
-//! Tests of `check` where files or the sink fail.
+//! Calls where files or the sink fail, and the program's ending over a sink in memory: what has reached the sink, and the exit status.
 
-use crate::calls::{Outside, roomy, writes};
-use rb_top::Status;
+use crate::calls::{FILES, outside, shelf_of, sink_of, words_of, writes};
+use rb_top::{Status, carry_out};
 use std::alloc::Global;
 
-const ACCEPTED: &str = "program a; process p { } end.";
-
-const FAULTS: u8 = 4;
-
-// What fails while a source is checked, and what comes of it.
-fn fault_row(n: u8) -> (Outside, Status, &'static str) {
-    let mut outside = roomy(237);
-    match n {
-        0 => {
-            outside.bad_read = 0;
-            (outside, Status::ReadFault, "")
-        }
-        1 => {
-            outside.bad_read = 2;
-            (outside, Status::ReadFault, "")
-        }
-        2 => {
-            outside.bad_write = 0;
-            (outside, Status::WriteFault, "")
-        }
-        _ => {
-            outside.room = 4;
-            (outside, Status::WriteFault, "acce")
-        }
-    }
-}
-
-// Whether these words, where the source is the file a, end so and write this text.
-fn answers(
+// Whether a call, of which these calls of the shelf and of the sink fail, ends so and writes this text.
+fn stops(
     alloc: Global,
-    line: &[&str],
-    source: &str,
-    outside: &Outside,
+    line: &str,
+    bad_read: u64,
+    bad_write: u64,
+    room: usize,
     status: Status,
-    want: &str,
+    want: &[u8],
 ) -> bool {
-    let files = [(b"a".as_slice(), source.as_bytes())];
-    writes(alloc, line, &files, outside, status, want.as_bytes())
+    writes(
+        alloc,
+        line,
+        FILES,
+        &outside(bad_read, bad_write, room),
+        status,
+        want,
+    )
 }
 
 #[test]
-fn stops_at_a_fault(rt: HostRuntime) {
-    for n in 0..FAULTS {
-        let (outside, status, want) = fault_row(n);
-        assert!(rt;
-            answers(
-                rt.alloc(),
-                &["check", "a"],
-                ACCEPTED,
-                &outside,
-                status,
-                want
-            ),
-            "row {n}"
-        );
-    }
+fn checks_stop_at_a_fault(rt: HostRuntime) {
+    let alloc = rt.alloc();
     assert!(rt;
-        answers(
-            rt.alloc(),
-            &["check", "b"],
-            ACCEPTED,
-            &roomy(237),
-            Status::ReadFault,
-            ""
-        )
+        stops(alloc, "check a", 0, 99, 237, Status::ReadFault, b"")
+            && stops(alloc, "check a", 2, 99, 237, Status::ReadFault, b"")
+            && stops(alloc, "check a", 99, 0, 237, Status::WriteFault, b"")
+            && stops(alloc, "check a", 99, 99, 4, Status::WriteFault, b"acce")
+            && stops(alloc, "check c", 99, 99, 237, Status::ReadFault, b"")
+    );
+}
+
+#[test]
+fn runs_stop_at_a_fault(rt: HostRuntime) {
+    let alloc = rt.alloc();
+    assert!(rt;
+        stops(alloc, "run a c", 99, 99, 99, Status::ReadFault, b"")
+            && stops(alloc, "run c b", 99, 99, 99, Status::ReadFault, b"")
+            && stops(alloc, "run a b", 0, 99, 99, Status::ReadFault, b"")
+            && stops(alloc, "run a b", 4, 99, 99, Status::ReadFault, b"")
+            && stops(alloc, "run a b", 99, 0, 99, Status::WriteFault, b"")
+            && stops(
+                alloc,
+                "run a b",
+                99,
+                99,
+                10,
+                Status::WriteFault,
+                b"2 out p x "
+            )
+    );
+}
+
+const USAGE: &[u8] =
+    b"usage: rbl run SOURCE SCHEDULE | survive SOURCE SCHEDULE | plain SOURCE RECORD | check SOURCE | code SOURCE | trial NUMBER | session SOURCE SCHEDULE SESSION | domino HISTORY | stuck SOURCE SCHEDULE | compile SOURCE | load IMAGE SCHEDULE\n";
+
+// Whether the call of these words, where this put of the sink fails, ends with this exit status, and this text has reached the sink.
+fn ends_so(alloc: Global, line: &str, bad_put: u64, room: usize, number: u8, want: &[u8]) -> bool {
+    let Some(words) = words_of(alloc, line) else {
+        return false;
+    };
+    let Some(sink) = sink_of(alloc, room, bad_put, usize::MAX) else {
+        return false;
+    };
+    match shelf_of(alloc, FILES, u64::MAX, usize::MAX) {
+        Ok(mut shelf) => {
+            let carried = carry_out(alloc, &words, &mut shelf, sink);
+            carried.number == number && carried.sink.bytes() == want
+        }
+        Err(_) => false,
+    }
+}
+
+#[test]
+fn ends_with_its_number(rt: HostRuntime) {
+    let alloc = rt.alloc();
+    let run = b"2 out p x 1\n2 done p\nend 2\np done\np.x = 1\n";
+    assert!(rt;
+        ends_so(alloc, "run a b", 9, 99, 0, run)
+            && ends_so(alloc, "run a a", 9, 99, 1, b"refused T1 at 1\n")
+            && ends_so(alloc, "go", 9, 237, 2, USAGE)
+            && ends_so(alloc, "run a c", 9, 99, 3, b"")
+            && ends_so(alloc, "run a b", 0, 99, 4, b"")
+            && ends_so(alloc, "run a b", 9, 14, 4, b"2 out p x 1\n2 ")
+            && ends_so(alloc, "go", 9, 6, 4, b"usage:")
     );
 }

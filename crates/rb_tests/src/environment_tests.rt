@@ -50,10 +50,13 @@ fn names_from_the_inside_out(rt: HostRuntime) {
     environment.pop_frame();
     assert!(rt; environment.values(b"x") == [7].as_slice());
     environment.pop_call();
-    assert!(rt; environment.values(b"x") == [0].as_slice());
-    assert!(rt; environment.values(b"row") == [0, -5].as_slice());
-    assert!(rt; environment.values(b"y") == [].as_slice());
-    assert!(rt; environment.word(2) == -5 && environment.word(3) == 0);
+    assert!(rt;
+        environment.values(b"x") == [0].as_slice()
+            && environment.values(b"row") == [0, -5].as_slice()
+            && environment.values(b"y") == [].as_slice()
+            && environment.word(2) == -5
+            && environment.word(3) == 0
+    );
 }
 
 #[test]
@@ -65,14 +68,17 @@ fn words_are_counted(rt: HostRuntime) {
     environment
         .push_call(alloc, &[name(b"p"), name(b"q")], &[7], &[scalar(b"y")])
         .expect(&rt, "memory");
-    assert!(rt; environment.open_calls() == 1);
-    assert!(rt; environment.room(7) == Some(1));
-    assert!(rt; environment.room(5).is_none());
     let block = [array(b"z", 2)];
-    assert!(rt; environment.overflows(&block, 7) && !environment.overflows(&block, 8));
     let parameters = [name(b"p")];
-    assert!(rt; environment.call_overflows(&parameters, &[], &block, 8));
-    assert!(rt; !environment.call_overflows(&parameters, &[], &block, 9));
+    assert!(rt;
+        environment.open_calls() == 1
+            && environment.room(7) == Some(1)
+            && environment.room(5).is_none()
+            && environment.overflows(&block, 7)
+            && !environment.overflows(&block, 8)
+            && environment.call_overflows(&parameters, &[], &block, 8)
+            && !environment.call_overflows(&parameters, &[], &block, 9)
+    );
 }
 
 #[test]
@@ -86,6 +92,5 @@ fn a_copy_stands_alone(rt: HostRuntime) {
     let copy = environment.copied(alloc).expect(&rt, "memory");
     environment.set(b"row", 1, 5);
     environment.set(b"x", 0, 6);
-    assert!(rt; copy.values(b"x") == [0].as_slice());
-    assert!(rt; copy.values(b"row") == [0, 4].as_slice());
+    assert!(rt; copy.values(b"x") == [0].as_slice() && copy.values(b"row") == [0, 4].as_slice());
 }

@@ -6,13 +6,13 @@ mod calls;
 #[cfg(test)]
 mod command_tests;
 #[cfg(test)]
-mod ending_tests;
-#[cfg(test)]
 mod environment_tests;
 #[cfg(test)]
 mod fault_tests;
 #[cfg(test)]
 mod image_rows;
+#[cfg(test)]
+mod judge_tests;
 #[cfg(test)]
 mod parse_rows;
 #[cfg(test)]
@@ -20,7 +20,7 @@ mod process_tests;
 #[cfg(test)]
 mod record_tests;
 #[cfg(test)]
-mod run_tests;
+mod rows;
 #[cfg(test)]
 mod trial_tests;
 #[cfg(test)]

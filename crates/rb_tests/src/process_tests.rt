@@ -114,12 +114,16 @@ fn overruns<L: Ledger>(alloc: Global, blank: Blank) -> Result<[Option<u32>; 4], 
 
 #[test]
 fn goes_back_at_the_limits(rt: HostRuntime) {
-    let seen = at_the_limits::<Brand>(rt.alloc(), Blank::new(1));
-    assert!(rt; seen == Ok((2, [1, 2], 12)));
+    let Ok(seen) = at_the_limits::<Brand>(rt.alloc(), Blank::new(1)) else {
+        panic!(rt; "memory");
+    };
+    assert!(rt; seen == (2, [1, 2], 12));
 }
 
 #[test]
 fn counts_turns(rt: HostRuntime) {
-    let seen = overruns::<Brand>(rt.alloc(), Blank::new(1));
-    assert!(rt; seen == Ok([None, Some(0), Some(0), None]));
+    let Ok(seen) = overruns::<Brand>(rt.alloc(), Blank::new(1)) else {
+        panic!(rt; "memory");
+    };
+    assert!(rt; seen == [None, Some(0), Some(0), None]);
 }

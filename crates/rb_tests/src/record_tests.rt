@@ -1,8 +1,9 @@
 //! Tests of records (rb_record): the turns that a text lists.
 
+use crate::rows::cut;
 use rb_base::{Kept, Memory, Names, ProcessNames, Text};
-use rb_record::{Record, RecordRefusal};
-use std::alloc::Global;
+use rb_record::Record;
+use std::alloc::{AllocError, Global};
 
 fn process(alloc: Global, name: &[u8]) -> Result<ProcessNames, Memory> {
     Ok(ProcessNames {
@@ -23,58 +24,52 @@ fn names(alloc: Global) -> Result<Names, Memory> {
     })
 }
 
-const fn kept(turn: u32, process: u32, alternate: u32) -> Kept {
-    Kept {
-        turn,
-        process,
-        alternate,
-    }
-}
+// Each row has a text, and of each turn that it lists the number, the process and the alternate.
+const LISTED: &[u8] = b"~~\
+\n\n# 1 p\r\n \t\n~~\
+1 p\n2 q1\n7 q1 3\n~(1 0 0)(2 1 0)(7 1 3)~\
+\t4\tp 1\r\n\n  1000000 q1 1000000 # last~(4 0 1)(1000000 1 1000000)~\
+003 p#1\r~(3 0 0)~\
+1 p 00000000000000000000000000000000000000001~(1 0 1)~";
 
-// What is read of a text.
-fn read(alloc: Global, text: &[u8]) -> Result<Record, RecordRefusal> {
-    let Ok(names) = names(alloc) else {
-        return Err(RecordRefusal::Memory);
-    };
-    if text.len() >= 100 {
-        return Err(RecordRefusal::Memory);
+fn tell(out: &mut String, turns: &[Kept]) -> Result<(), AllocError> {
+    for kept in turns {
+        let turn = kept.turn;
+        let process = kept.process;
+        let alternate = kept.alternate;
+        write!(out, "({turn} {process} {alternate})")?;
     }
-    Record::read(alloc, text, &names)
+    Ok(())
 }
 
 // Whether a text lists these turns.
-fn lists(alloc: Global, text: &[u8], turns: &[Kept]) -> bool {
-    match read(alloc, text) {
-        Ok(record) => record.turns() == turns,
-        Err(_) => false,
+fn lists(alloc: Global, names: &Names, text: &[u8], want: &[u8]) -> bool {
+    if text.len() >= 100 {
+        return false;
     }
+    let Ok(record) = Record::read(alloc, text, names) else {
+        return false;
+    };
+    let mut out = String::new(alloc);
+    tell(&mut out, record.turns()).is_ok() && out.as_bytes() == want
+}
+
+// How many rows hold, up to the first that does not.
+fn listed(alloc: Global, names: &Names, rows: &[u8]) -> usize {
+    let mut rest = rows;
+    for row in 0..rows.len() {
+        let (text, after) = cut(rest);
+        let (want, after) = cut(after);
+        if rest.is_empty() || !lists(alloc, names, text, want) {
+            return row;
+        }
+        rest = after;
+    }
+    rows.len()
 }
 
 #[test]
 fn reads(rt: HostRuntime) {
-    let alloc = rt.alloc();
-    assert!(rt; lists(alloc, b"", &[]));
-    assert!(rt; lists(alloc, b"\n\n# 1 p\r\n \t\n", &[]));
-    assert!(rt;
-        lists(
-            alloc,
-            b"1 p\n2 q1\n7 q1 3\n",
-            &[kept(1, 0, 0), kept(2, 1, 0), kept(7, 1, 3)]
-        )
-    );
-    assert!(rt;
-        lists(
-            alloc,
-            b"\t4\tp 1\r\n\n  1000000 q1 1000000 # last",
-            &[kept(4, 0, 1), kept(1_000_000, 1, 1_000_000)]
-        )
-    );
-    assert!(rt; lists(alloc, b"003 p#1\r", &[kept(3, 0, 0)]));
-    assert!(rt;
-        lists(
-            alloc,
-            b"1 p 00000000000000000000000000000000000000001",
-            &[kept(1, 0, 1)]
-        )
-    );
+    let names = names(rt.alloc()).expect(&rt, "memory");
+    assert!(rt; listed(rt.alloc(), &names, LISTED) == 6);
 }
