@@ -24,7 +24,7 @@ pub(crate) struct Outside {
 }
 
 /// These calls of the shelf and of the sink fail, and the sink has this room.
-pub(crate) fn outside(bad_read: u64, bad_write: u64, room: usize) -> Outside {
+pub(crate) fn failing(bad_read: u64, bad_write: u64, room: usize) -> Outside {
     Outside {
         bad_read,
         bad_write,
@@ -36,7 +36,7 @@ pub(crate) fn outside(bad_read: u64, bad_write: u64, room: usize) -> Outside {
 
 /// No call fails, and the sink has this room.
 pub(crate) fn roomy(room: usize) -> Outside {
-    outside(u64::MAX, u64::MAX, room)
+    failing(u64::MAX, u64::MAX, room)
 }
 
 /// The name of a file, and its text.

@@ -1,6 +1,6 @@
 //! Calls where files or the sink fail, and the program's ending over a sink in memory: what has reached the sink, and the exit status.
 
-use crate::calls::{FILES, outside, shelf_of, sink_of, words_of, writes};
+use crate::calls::{FILES, failing, shelf_of, sink_of, words_of, writes};
 use rb_top::{Status, carry_out};
 use std::alloc::Global;
 
@@ -18,7 +18,7 @@ fn stops(
         alloc,
         line,
         FILES,
-        &outside(bad_read, bad_write, room),
+        &failing(bad_read, bad_write, room),
         status,
         want,
     )

@@ -1,6 +1,6 @@
 //! Each call of the shelf and of the sink fails once.
 
-use crate::calls::{FILES, Outside, called, outside, writes};
+use crate::calls::{FILES, Outside, called, failing, writes};
 use rb_top::Status;
 use std::alloc::Global;
 
@@ -11,7 +11,7 @@ fn bytewise(bad_read: u64, bad_write: u64, room: usize) -> Outside {
     Outside {
         most_read: 1,
         most_written: 1,
-        ..outside(bad_read, bad_write, room)
+        ..failing(bad_read, bad_write, room)
     }
 }
 
