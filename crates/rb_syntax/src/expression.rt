@@ -19,15 +19,20 @@ pub struct Number {
 
 /// A variable, or an element of an array.
 #[cycle(expression)]
-#[derive(Drop)]
 pub struct Target<'a> {
     pub name: Name<'a>,
     pub index: Option<Box<Expr<'a>>>,
 }
 
+impl Drop for Target<'_> {
+    #[cycle(expression)]
+    fn drop(self) {
+        let Target { name: _, index: _ } = self;
+    }
+}
+
 /// An expression. Parentheses leave no node of their own.
 #[cycle(expression)]
-#[derive(Drop)]
 pub enum Expr<'a> {
     Number(Number),
     Value(Target<'a>),
@@ -40,17 +45,37 @@ pub enum Expr<'a> {
     Quantified(Quantified<'a>),
 }
 
+impl Drop for Expr<'_> {
+    #[cycle(expression)]
+    fn drop(self) {
+        match self {
+            Expr::Number(_) => {}
+            Expr::Value(_) => {}
+            Expr::Prior(_, _) => {}
+            Expr::Neg(_) => {}
+            Expr::Not(_) => {}
+            Expr::Chain(_, _) => {}
+            Expr::Quantified(_) => {}
+        }
+    }
+}
+
 /// An operator and its right operand.
 #[cycle(expression)]
-#[derive(Drop)]
 pub struct Link<'a> {
     pub op: Op,
     pub right: Expr<'a>,
 }
 
+impl Drop for Link<'_> {
+    #[cycle(expression)]
+    fn drop(self) {
+        let Link { op: _, right: _ } = self;
+    }
+}
+
 /// An expression over the numbers from `low` to `high`, which `name` stands for in the body.
 #[cycle(expression)]
-#[derive(Drop)]
 pub struct Quantified<'a> {
     pub kind: Quantifier,
     pub place: Place,
@@ -58,6 +83,20 @@ pub struct Quantified<'a> {
     pub low: Box<Expr<'a>>,
     pub high: Box<Expr<'a>>,
     pub body: Box<Expr<'a>>,
+}
+
+impl Drop for Quantified<'_> {
+    #[cycle(expression)]
+    fn drop(self) {
+        let Quantified {
+            kind: _,
+            place: _,
+            name: _,
+            low: _,
+            high: _,
+            body: _,
+        } = self;
+    }
 }
 
 /// The words `every`, `some` and `sum`.

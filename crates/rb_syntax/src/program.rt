@@ -5,7 +5,6 @@ use crate::statement::{Block, Statement, Var};
 use rb_base::Edition;
 
 /// A whole program: `names` is the number of names in the text, `blocks` that of its recoveries.
-#[derive(Drop)]
 pub struct Program<'a> {
     pub name: Name<'a>,
     pub channels: Vec<Channel<'a>>,
@@ -14,6 +13,20 @@ pub struct Program<'a> {
     pub names: u32,
     pub blocks: u32,
     pub edition: Edition,
+}
+
+impl Drop for Program<'_> {
+    fn drop(self) {
+        let Program {
+            name: _,
+            channels: _,
+            conversations: _,
+            processes: _,
+            names: _,
+            blocks: _,
+            edition: _,
+        } = self;
+    }
 }
 
 /// A channel from one process to another, with room for `size` values.
@@ -26,14 +39,21 @@ pub struct Channel<'a> {
 }
 
 /// A conversation and its members.
-#[derive(Drop)]
 pub struct Conversation<'a> {
     pub name: Name<'a>,
     pub members: Vec<Name<'a>>,
 }
 
+impl Drop for Conversation<'_> {
+    fn drop(self) {
+        let Conversation {
+            name: _,
+            members: _,
+        } = self;
+    }
+}
+
 /// A process.
-#[derive(Drop)]
 pub struct Process<'a> {
     pub name: Name<'a>,
     pub vars: Vec<Var<'a>>,
@@ -41,10 +61,30 @@ pub struct Process<'a> {
     pub body: Vec<Statement<'a>>,
 }
 
+impl Drop for Process<'_> {
+    fn drop(self) {
+        let Process {
+            name: _,
+            vars: _,
+            procedures: _,
+            body: _,
+        } = self;
+    }
+}
+
 /// A procedure of a process.
-#[derive(Drop)]
 pub struct Procedure<'a> {
     pub name: Name<'a>,
     pub params: Vec<Name<'a>>,
     pub block: Block<'a>,
+}
+
+impl Drop for Procedure<'_> {
+    fn drop(self) {
+        let Procedure {
+            name: _,
+            params: _,
+            block: _,
+        } = self;
+    }
 }
