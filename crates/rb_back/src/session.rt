@@ -39,7 +39,6 @@ pub(crate) struct Turn {
 
 /// A run that can be stepped forth and back. Contracts see the turns that were taken so far and the position among them; what is shown is
 /// the run over the turns up to there. The machine stands behind the last of them.
-#[derive(Drop)]
 pub struct Session<'a, L: Ledger> {
     machine: Machine<'a, L>,
     report: Report,
@@ -49,6 +48,21 @@ pub struct Session<'a, L: Ledger> {
     most_changed: usize,
     ranges: Vec<Stores>,
     position: u32,
+}
+
+impl<L: Ledger> Drop for Session<'_, L> {
+    fn drop(self) {
+        let Session {
+            machine: _,
+            report: _,
+            view: _,
+            turns: _,
+            changes: _,
+            most_changed: _,
+            ranges: _,
+            position: _,
+        } = self;
+    }
 }
 
 impl<'a, L: Ledger> Model for Session<'a, L> {

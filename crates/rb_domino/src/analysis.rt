@@ -26,10 +26,15 @@ pub struct Dropped {
 }
 
 /// The states that are given up, in their order, and the recovery line: for each process the latest state that is left.
-#[derive(Drop)]
 pub struct Analysis {
     pub drops: Vec<Dropped>,
     pub line: Vec<u32>,
+}
+
+impl Drop for Analysis {
+    fn drop(self) {
+        let Analysis { drops: _, line: _ } = self;
+    }
 }
 
 #[tactic(auto, using(crate::proofs::Orderly::orderly))]

@@ -21,11 +21,20 @@ pub enum HistoryRefusal {
 
 /// What processes did up to the failure of one of them. Contracts see the names of the processes, the messages, and the
 /// lines that aren't empty.
-#[derive(Drop)]
 pub struct History {
     processes: Vec<Text>,
     messages: Vec<Message>,
     lines: Vec<Line>,
+}
+
+impl Drop for History {
+    fn drop(self) {
+        let History {
+            processes: _,
+            messages: _,
+            lines: _,
+        } = self;
+    }
 }
 
 impl Model for History {

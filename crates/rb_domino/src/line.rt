@@ -3,12 +3,22 @@
 use rb_base::Text;
 
 /// A message of a history: its name, the processes that send and take it, and the place of its `send` among the lines.
-#[derive(Drop)]
 pub struct Message {
     pub name: Text,
     pub sender: u32,
     pub receiver: u32,
     pub sent: u32,
+}
+
+impl Drop for Message {
+    fn drop(self) {
+        let Message {
+            name: _,
+            sender: _,
+            receiver: _,
+            sent: _,
+        } = self;
+    }
 }
 
 /// A line of a history. Processes and messages are numbered from 0 in the order of their first lines.

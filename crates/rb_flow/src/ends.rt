@@ -51,11 +51,20 @@ fn note_end(ends: &mut Vec<u32>, instr: Instr, counter: u32, at: u32)
 }
 
 /// What is looked up by address: the ends of all loops, over either counter, and the first addresses of each process's procedures.
-#[derive(Drop)]
 pub struct Ends {
     pub zero: Vec<u32>,
     pub one: Vec<u32>,
     pub starts: Vec<BTreeSet<u32>>,
+}
+
+impl Drop for Ends {
+    fn drop(self) {
+        let Ends {
+            zero: _,
+            one: _,
+            starts: _,
+        } = self;
+    }
 }
 
 pub fn all_ends(alloc: Global, code: &Code) -> Result<Ends, Memory>

@@ -44,7 +44,6 @@ use std::sync::ledger::Ledger;
 
 /// A program under way. Contracts see the word machine's world, in which each open level has a whole copy of its process; the machine
 /// copies nothing. Only the two loads and `survivors` take memory.
-#[derive(Drop)]
 pub struct Machine<'a, L: Ledger> {
     parts: Parts<L>,
     code: &'a Code,
@@ -53,6 +52,20 @@ pub struct Machine<'a, L: Ledger> {
     most: u32,
     released: bool,
     resting: Resting,
+}
+
+impl<L: Ledger> Drop for Machine<'_, L> {
+    fn drop(self) {
+        let Machine {
+            parts: _,
+            code: _,
+            running: _,
+            taken: _,
+            most: _,
+            released: _,
+            resting: _,
+        } = self;
+    }
 }
 
 impl<'a, L: Ledger> Model for Machine<'a, L> {

@@ -236,17 +236,11 @@ fn read_converse<'a>(
 
 // A recovery in which a member takes part in a conversation.
 #[tactic(auto, using(rb_syntax::proofs::Bridge::trees))]
-fn join<'a>(name: Name<'a>, recovery: Recovery<'a>) -> Recovery<'a>
+fn join<'a>(name: Name<'a>, mut recovery: Recovery<'a>) -> Recovery<'a>
     ensures { recovery_block result ≡ joined (identifier name.entry) (recovery_block recovery.entry) }
 {
-    Recovery {
-        number: recovery.number,
-        conversation: Some(name),
-        place: recovery.place,
-        test: recovery.test,
-        bound: recovery.bound,
-        alternates: recovery.alternates,
-    }
+    recovery.conversation = Some(name);
+    recovery
 }
 
 /// Reads a recovery block.

@@ -38,10 +38,20 @@ pub struct TalkNoted {
 }
 
 /// A process: the words of its variables, its open levels from the outside in, how many lines it holds, and how it stands.
-#[derive(Drop)]
 pub struct ProcessWas {
     pub words: Vec<i64>,
     pub levels: Vec<OpenLevel>,
     pub held: u32,
     pub stand: Stand,
+}
+
+impl Drop for ProcessWas {
+    fn drop(self) {
+        let ProcessWas {
+            words: _,
+            levels: _,
+            held: _,
+            stand: _,
+        } = self;
+    }
 }

@@ -11,10 +11,15 @@ use rb_judge::judge;
 use std::alloc::Global;
 
 /// An accepted source as it is executed: its code, with the names that lines and schedules speak of, and its conversations.
-#[derive(Drop)]
 pub struct Prepared {
     pub code: Code,
     pub nested: Nested,
+}
+
+impl Drop for Prepared {
+    fn drop(self) {
+        let Prepared { code: _, nested: _ } = self;
+    }
 }
 
 /// Judges a source and makes its code, or tells its first fault, as `judge` does. The code stands for the source's tree and is sound.

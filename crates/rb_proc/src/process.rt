@@ -44,7 +44,6 @@ use std::marker::Model;
 use std::sync::ledger::Ledger;
 
 /// A process of the machine. Contracts see the process of the word machine, with its whole copies.
-#[derive(Drop)]
 pub struct Proc<L: Ledger> {
     alloc: Global,
     memory: Recoverable<L>,
@@ -55,6 +54,22 @@ pub struct Proc<L: Ledger> {
     last_kept: u32,
     at_line: bool,
     status: ProcessStatus,
+}
+
+impl<L: Ledger> Drop for Proc<L> {
+    fn drop(self) {
+        let Proc {
+            alloc: _,
+            memory: _,
+            values: _,
+            bench: _,
+            process: _,
+            at: _,
+            last_kept: _,
+            at_line: _,
+            status: _,
+        } = self;
+    }
 }
 
 impl<L: Ledger> Model for Proc<L> {

@@ -13,10 +13,18 @@ use std::collections::HashMap;
 use std::marker::Model;
 
 /// The declarations of a scope, in the order of the text, and the place of the first of each name among them.
-#[derive(Drop)]
 pub struct Scope<'a> {
     declared: Vec<Declared<'a>>,
     places: HashMap<&'a [u8], usize>,
+}
+
+impl Drop for Scope<'_> {
+    fn drop(self) {
+        let Scope {
+            declared: _,
+            places: _,
+        } = self;
+    }
 }
 
 impl<'a> Model for Scope<'a> {

@@ -197,7 +197,7 @@ fn names_of_image(alloc: Global, bytes: &[u8]) -> Option<Names>
     ensures { IfSome result (HasNames Reads.Image bytes.now) }
 {
     match read_image(alloc, bytes) {
-        Ok(raw) => Some(raw.code.names),
+        Ok(raw) => Some(raw.code.into_names()),
         Err(_) => None,
     }
 }

@@ -35,10 +35,15 @@ pub enum Unfit {
 
 /// A program that may be run: its code is sound, and what is printed of each process lies within the words of the process. Contracts see
 /// the program.
-#[derive(Drop)]
 pub struct Image {
     code: Code,
     nested: Nested,
+}
+
+impl Drop for Image {
+    fn drop(self) {
+        let Image { code: _, nested: _ } = self;
+    }
 }
 
 impl Model for Image {

@@ -19,11 +19,20 @@ use std::alloc::Global;
 
 /// What the rules ask of a conversation: its members, each once, the conversation right around it, and its number of
 /// alternates if it is joined.
-#[derive(Drop)]
 pub struct Facts {
     pub members: Vec<usize>,
     pub parent: Option<usize>,
     pub alternates: Option<usize>,
+}
+
+impl Drop for Facts {
+    fn drop(self) {
+        let Facts {
+            members: _,
+            parent: _,
+            alternates: _,
+        } = self;
+    }
 }
 
 /// What the rules ask of all conversations. Notes the faults of their declarations.

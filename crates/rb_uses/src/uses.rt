@@ -17,13 +17,22 @@ use rb_syntax::Program;
 use std::alloc::Global;
 
 /// All uses of a program in the order of the text, and those among them that join a conversation.
-#[derive(Drop)]
 pub struct Uses<'p, 'a> {
     pub program: &'p Program<'a>,
     all: Vec<Use<'a>>,
     joins: Vec<Use<'a>>,
     ghost told: { all_held all.items ≡ summaries (tree program.now) },
     ghost joined: { all_held joins.items ≡ joins_among (summaries (tree program.now)) },
+}
+
+impl Drop for Uses<'_, '_> {
+    fn drop(self) {
+        let Uses {
+            program: _,
+            all: _,
+            joins: _,
+        } = self;
+    }
 }
 
 impl<'p, 'a> Uses<'p, 'a> {

@@ -19,18 +19,32 @@ use std::marker::Model;
 use std::sync::ledger::Ledger;
 
 /// A program as far as changes of it are told: its processes, its channels and its conversations.
-#[derive(Drop)]
 pub struct Noted {
     pub processes: Vec<ProcessWas>,
     pub channels: Vec<Numbers>,
     pub talks: Vec<TalkNoted>,
 }
 
+impl Drop for Noted {
+    fn drop(self) {
+        let Noted {
+            processes: _,
+            channels: _,
+            talks: _,
+        } = self;
+    }
+}
+
 /// How a program stood when its changes were told last, with as much memory again for how it stands then. No turn takes more.
-#[derive(Drop)]
 pub struct Was {
     pub(crate) told: Noted,
     pub(crate) now: Noted,
+}
+
+impl Drop for Was {
+    fn drop(self) {
+        let Was { told: _, now: _ } = self;
+    }
 }
 
 impl Model for Was {
