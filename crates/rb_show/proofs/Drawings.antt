@@ -4,13 +4,13 @@ use Rattle.rb_base.specs.declared.limits.TheConstants.{MOST_BYTES}
 use Rattle.rb_outside.specs.Outside.{File, Faults, Start}
 use Rattle.rb_syntax.specs.Tree.{Tree}
 use Rattle.rb_picture.specs.Meant.{tree_trace_text}
-use Rattle.rb_top.specs.Words.{Request, page_of, trace_of}
-use Rattle.rb_top.specs.Answers.{Scene, WithRequest}
-use Rattle.rb_top.specs.Judgement.{Accepted, Judgement, Judges, JudgesPage, JudgesSource, ListsTurns, OverSchedule, ReadsOn, RefusedWith, ScheduleRefused, SourceRefused, Writes, names_of}
-use Rattle.rb_top.specs.Judgement.{at_first, bad_schedule, bad_source, behind_page, first_accepted, first_refused, long_schedule, long_source, page_refused, reads_schedule, runs, schedule_refused}
-use Rattle.rb_top.specs.Stages.{EndsForSource}
-use Rattle.rb_top.specs.declared.status.Status.{Status}
-use Rattle.rb_top.proofs.Answering.{AreStarts, resumed}
+use Rattle.rb_stages.specs.Words.{Request, page_of, trace_of}
+use Rattle.rb_stages.specs.Answers.{Scene, WithRequest}
+use Rattle.rb_stages.specs.Judgement.{Accepted, Judgement, Judges, JudgesPage, JudgesSource, ListsTurns, OverSchedule, ReadsOn, RefusedWith, ScheduleRefused, SourceRefused, Writes, names_of}
+use Rattle.rb_stages.specs.Judgement.{at_first, bad_schedule, bad_source, behind_page, first_accepted, first_refused, long_schedule, long_source, page_refused, reads_schedule, runs, schedule_refused}
+use Rattle.rb_stages.specs.Stages.{EndsForSource}
+use Rattle.rb_stages.specs.declared.status.Status.{Status}
+use Rattle.rb_stages.proofs.Answering.{AreStarts, resumed}
 use Rattle.rb_show.specs.Drawing.{DrawnOver, Draws, EndsDrawn, text_in}
 use Rattle.rb_show.specs.Traced.{IsTraced}
 use Rattle.rb_show.specs.declared.traced.Traced.{Traced}

@@ -13,10 +13,10 @@ use Rattle.rb_nest.specs.Groups.{alternates}
 use Rattle.rb_picture.specs.Meant.{tree_trace_text}
 use Rattle.rb_picture.specs.Trace.{trace_text}
 use Rattle.rb_sched.specs.Schedule.{schedule_of}
-use Rattle.rb_top.specs.Judgement.{Accepted, Judgement, RefusedWith, Writes, bad_schedule, names_of, text_line}
+use Rattle.rb_stages.specs.Judgement.{Accepted, Judgement, RefusedWith, Writes, bad_schedule, names_of, text_line}
 use Rattle.rb_view.proofs.AsMeant.{traces_as_meant}
-use Rattle.rb_top.proofs.Loaded.{groups_are, opened_counts}
-use Rattle.rb_top.proofs.Scheduled.{names_are}
+use Rattle.rb_stages.proofs.Loaded.{groups_are, opened_counts}
+use Rattle.rb_commands.proofs.Scheduled.{names_are}
 use Rattle.rb_show.specs.Drawing.{DrawnOver, EndsDrawn, text_in}
 use Rattle.rb_show.specs.Traced.{IsTraced}
 use Rattle.rb_show.specs.declared.traced.Traced.{Traced}

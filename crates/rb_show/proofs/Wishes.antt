@@ -3,10 +3,10 @@ use Rattle.std.proofs.Common.{◌≡◌, ◌⊎◌, ℕ, List, Option, Some, Non
 use Rattle.rb_outside.specs.declared.Failed.{Failed}
 use Rattle.rb_outside.specs.Puts.{Puts}
 use Rattle.rb_reasons.specs.Names.{name_of}
-use Rattle.rb_top.specs.Answers.{ReadsNothing, Scene, WritesAll, WritesPart}
-use Rattle.rb_top.specs.declared.status.Status.{Status}
-use Rattle.rb_top.specs.declared.status.Status.TheVariants.{Done, Memory, Usage, WriteFault}
-use Rattle.rb_top.proofs.Answering.{memory_at_once}
+use Rattle.rb_stages.specs.Answers.{ReadsNothing, Scene, WritesAll, WritesPart}
+use Rattle.rb_stages.specs.declared.status.Status.{Status}
+use Rattle.rb_stages.specs.declared.status.Status.TheVariants.{Done, Memory, Usage, WriteFault}
+use Rattle.rb_stages.proofs.Answering.{memory_at_once}
 use Rattle.rb_top.proofs.Complete.{completed}
 use Rattle.rb_show.specs.Answers.{CompleteWhereDrawn, Explained, TellsOnly, WhereWished, usage_line}
 use Rattle.rb_show.specs.Words.{Wish, Draws, Explains}

@@ -3,10 +3,10 @@ use Rattle.std.specs.Prelude.{◌≡◌, ◌⊎◌, ℕ, nat_eq, List, codes, Op
 use Rattle.std.specs.List.{find}
 use Rattle.std.specs.Cmp.Lexicographic.{pointwise}
 use Rattle.rb_reasons.specs.Names.{name_of, names}
-use Rattle.rb_top.specs.Answers.{ReadsNothing, Scene, WithRequest, WritesAll, WritesNothing, WritesPart}
-use Rattle.rb_top.specs.Complete.{IsComplete}
-use Rattle.rb_top.specs.declared.status.Status.{Status}
-use Rattle.rb_top.specs.declared.status.Status.TheVariants.{Done, Memory, Usage, WriteFault}
+use Rattle.rb_stages.specs.Answers.{ReadsNothing, Scene, WithRequest, WritesAll, WritesNothing, WritesPart}
+use Rattle.rb_stages.specs.Complete.{IsComplete}
+use Rattle.rb_stages.specs.declared.status.Status.{Status}
+use Rattle.rb_stages.specs.declared.status.Status.TheVariants.{Done, Memory, Usage, WriteFault}
 use Rattle.rb_show.specs.Words.{Wish, Draws, Explains}
 
 -- the line that shows the commands

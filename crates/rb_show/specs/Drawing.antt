@@ -4,9 +4,9 @@ use Rattle.rb_outside.specs.Outside.{Start}
 use Rattle.rb_syntax.specs.Tree.{Tree}
 use Rattle.rb_page.specs.Page.{page_text}
 use Rattle.rb_picture.specs.Meant.{tree_trace_text}
-use Rattle.rb_top.specs.Words.{Request}
-use Rattle.rb_top.specs.Answers.{Scene}
-use Rattle.rb_top.specs.Judgement.{Accepted, Judgement, Judges, ListsTurns, ReadsOn, RefusedWith, ScheduleRefused, SourceRefused, Writes, names_of}
+use Rattle.rb_stages.specs.Words.{Request}
+use Rattle.rb_stages.specs.Answers.{Scene}
+use Rattle.rb_stages.specs.Judgement.{Accepted, Judgement, Judges, ListsTurns, ReadsOn, RefusedWith, ScheduleRefused, SourceRefused, Writes, names_of}
 use Rattle.rb_show.specs.declared.traced.Traced.{Traced}
 use Rattle.rb_show.specs.Traced.{IsTraced}
 

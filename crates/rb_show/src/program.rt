@@ -1,5 +1,5 @@
 //! The program over the words, the files and the output of the host.
-ghost use Rattle.rb_top.specs.Ending.{IsExitStatus};
+ghost use Rattle.rb_stages.specs.Ending.{IsExitStatus};
 
 use crate::top::{Shown, command};
 use rb_outside::{Buffered, HostShelf, HostSink};

@@ -3,7 +3,7 @@ ghost use Rattle.std.specs.Prelude.{◌≡◌, nat_eq, Some};
 ghost use Rattle.rb_reasons.specs.Names.{names};
 ghost use Rattle.std.specs.List.{find};
 ghost use Rattle.std.specs.Cmp.Lexicographic.{pointwise};
-ghost use Rattle.rb_top.specs.Answers.{scene_of};
+ghost use Rattle.rb_stages.specs.Answers.{scene_of};
 ghost use Rattle.rb_show.specs.Answers.{CompleteWhereDrawn, Explained, TellsOnly, WhereWished, usage_line};
 ghost use Rattle.rb_show.specs.Words.{wish_of};
 ghost use Rattle.rb_show.specs.Wished.{asked};
@@ -12,7 +12,7 @@ use crate::draw::{page_files, trace_files};
 use crate::request::{Wish, wished};
 use rb_outside::{Shelf, Sink, put_all};
 use rb_reasons::reason_of;
-use rb_top::status::status_after;
+use rb_stages::status::status_after;
 use rb_top::{Status, Words};
 use std::alloc::Global;
 

@@ -2,17 +2,17 @@
 ghost use Rattle.std.specs.Prelude.{◌≡◌, ◌≤◌, length, IfOk, IfErr, OnOk};
 ghost use Rattle.rb_base.specs.declared.limits.TheConstants.{MOST_BYTES};
 ghost use Rattle.rb_judge.specs.Judged.{IsJudged};
-ghost use Rattle.rb_top.specs.Stages.{EndsForSource, StageEnds};
+ghost use Rattle.rb_stages.specs.Stages.{EndsForSource, StageEnds};
 ghost use Rattle.rb_show.specs.Traced.{IsTraced};
 
 use rb_base::{Memory, Place};
+use rb_commands::source::judged_source;
 use rb_gen::generate;
 use rb_judge::Judged;
 use rb_outside::Sink;
 use rb_picture::places_of;
 use rb_prepare::Prepared;
-use rb_top::Status;
-use rb_top::source::judged_source;
+use rb_stages::Status;
 use std::alloc::Global;
 
 /// An accepted source as it is traced.

@@ -11,8 +11,8 @@ use Rattle.rb_outside.specs.Outside.{File, bytes_of}
 use Rattle.rb_judge.specs.Judged.{IsJudged}
 use Rattle.rb_judge.specs.declared.judging.Judged.{Judged}
 use Rattle.rb_image.specs.Laws.{IsImage}
-use Rattle.rb_top.specs.declared.image.TheConstants.{MOST_IMAGE}
-use Rattle.rb_top.specs.Judgement.{no_image_line, source_line, stuck_line, text_line, too_long_line, unsound_line}
+use Rattle.rb_stages.specs.declared.image.TheConstants.{MOST_IMAGE}
+use Rattle.rb_stages.specs.Judgement.{no_image_line, source_line, stuck_line, text_line, too_long_line, unsound_line}
 use Rattle.rb_tell.specs.declared.reads.Reads.{Reads}
 use Rattle.rb_tell.specs.declared.reads.Reads.TheVariants as read
 use Rattle.rb_tell.specs.declared.told.Told.{Told}

@@ -1,6 +1,6 @@
 //! The words that the host gives.
 ghost use Rattle.std.specs.Prelude.{◌≡◌, IfErr};
-ghost use Rattle.rb_top.specs.Ending.{IsExitStatus, no_text};
+ghost use Rattle.rb_stages.specs.Ending.{IsExitStatus, no_text};
 
 use rb_top::{Status, Words};
 use std::env;

@@ -1,5 +1,5 @@
 //! The program `rbl` over the words, the files and the output of the host.
-ghost use Rattle.rb_top.specs.Ending.{IsExitStatus};
+ghost use Rattle.rb_stages.specs.Ending.{IsExitStatus};
 
 use crate::aloud::{Ended, tell_end};
 use crate::given::words_given;

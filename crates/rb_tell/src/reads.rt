@@ -4,8 +4,8 @@ ghost use Rattle.std.specs.Prelude.{◌≡◌, slice_get, IfSome, Some};
 ghost use Rattle.rb_tell.specs.Reasons.{most_of, word_of};
 
 use rb_base::MOST_BYTES;
+use rb_stages::image::MOST_IMAGE;
 use rb_top::Words;
-use rb_top::image::MOST_IMAGE;
 
 /// What stands first among the files of a command.
 #[derive(Clone, Copy)]

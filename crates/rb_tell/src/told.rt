@@ -9,7 +9,7 @@ use rb_base::numbers::number_value;
 use rb_base::{FaultName, Place, SourceFault, TextFault};
 use rb_outside::{Failed, MemorySink, Sink};
 use rb_sched::words::next_word;
-use rb_top::refuse::{
+use rb_stages::refuse::{
     refuse_bytes, refuse_long, refuse_source, refuse_stuck, refuse_text, refuse_unsound,
 };
 use std::alloc::Global;

@@ -19,8 +19,8 @@ use rb_judge::{Judged, judge};
 use rb_outside::Shelf;
 use rb_plain::{StuckTurn, stuck_cause};
 use rb_record::Record;
+use rb_stages::read::read_file;
 use rb_top::Words;
-use rb_top::read::read_file;
 use rb_why::{file_reason, long_reason, names_process, source_reason, stuck_reason, text_reason};
 use std::alloc::Global;
 

@@ -5,14 +5,14 @@ use Rattle.std.proofs.Math.Seq.{take-append_seam, take-length}
 use Rattle.rb_world.proofs.ListFacts.{second_holds}
 use Rattle.rb_outside.specs.Outside.{File, Faults, Start, WrotePart, failed_once, went_well, then_written}
 use Rattle.rb_outside.proofs.Puts.{failed_after}
-use Rattle.rb_top.specs.Words.{Command, Run, Survive, Replay, Check, ListCode, Trial, Session, Analyse, Survey, Compile, Load, Trace, Page, Request}
-use Rattle.rb_top.specs.Judgement.{usage_line}
-use Rattle.rb_top.specs.Answers.{Scene, ReadFails, by_fault, by_missing, WritesByThen, WritesFront, WritesAll, WritesPart, WritesNothing, WithoutRequest, WithRequest, WhereRequested}
-use Rattle.rb_top.specs.Complete.{IsUnhindered, EndsAs, IsComplete}
-use Rattle.rb_top.specs.Ending.{IsUnwritten, SeenBehind, EndsWithNumber, Finishes, status_number}
-use Rattle.rb_top.proofs.Answering.{memory_at_once}
-use Rattle.rb_top.specs.declared.status.Status.{Status}
-use Rattle.rb_top.specs.declared.status.Status.TheVariants.{Done, Refused, Usage, ReadFault, WriteFault, Memory}
+use Rattle.rb_stages.specs.Words.{Command, Run, Survive, Replay, Check, ListCode, Trial, Session, Analyse, Survey, Compile, Load, Trace, Page, Request}
+use Rattle.rb_stages.specs.Judgement.{usage_line}
+use Rattle.rb_stages.specs.Answers.{Scene, ReadFails, by_fault, by_missing, WritesByThen, WritesFront, WritesAll, WritesPart, WritesNothing, WithoutRequest, WithRequest, WhereRequested}
+use Rattle.rb_stages.specs.Complete.{IsUnhindered, EndsAs, IsComplete}
+use Rattle.rb_stages.specs.Ending.{IsUnwritten, SeenBehind, EndsWithNumber, Finishes, status_number}
+use Rattle.rb_stages.proofs.Answering.{memory_at_once}
+use Rattle.rb_stages.specs.declared.status.Status.{Status}
+use Rattle.rb_stages.specs.declared.status.Status.TheVariants.{Done, Refused, Usage, ReadFault, WriteFault, Memory}
 use Rattle.rb_top.proofs.Complete.{completed}
 
 -- a front of a front

@@ -1,10 +1,10 @@
 -- The files that a command has read, one after another, against the texts that stand on the shelf.
 use Rattle.std.proofs.Common.{◌≡◌, ℕ, List, [], ◌∷◌, ◌++◌, Option, Some, refl, sym, ap, subst, ◌∙◌, append_assoc}
 use Rattle.rb_outside.specs.Outside.{File, Start, bytes_of}
-use Rattle.rb_top.specs.Words.{Wanted, Request}
-use Rattle.rb_top.specs.Judgement.{Judgement, EndsWith, later}
-use Rattle.rb_top.specs.Answers.{HasRead, nothing_yet, one_more}
-use Rattle.rb_top.specs.Complete.{AreStored}
+use Rattle.rb_stages.specs.Words.{Wanted, Request}
+use Rattle.rb_stages.specs.Judgement.{Judgement, EndsWith, later}
+use Rattle.rb_stages.specs.Answers.{HasRead, nothing_yet, one_more}
+use Rattle.rb_stages.specs.Complete.{AreStored}
 
 -- The texts that stand on the shelf are those that were read, and these.
 pub record Left (files : List File) (texts read : List (List ℕ)) (rest : List Wanted) : Type 0 where

@@ -3,12 +3,12 @@
 use Rattle.std.proofs.Common.{◌≡◌, ◌⊎◌, ℕ, List, [], ◌∷◌, ◌++◌, Option, Some, None, refl, sym, ap, subst, ◌∙◌, inl, inr, arith}
 use Rattle.rb_outside.specs.Outside.{File, Start, Faults, Rose, bytes_of, failed_once, then_written}
 use Rattle.rb_outside.specs.Outside as outside
-use Rattle.rb_top.specs.Words.{Request}
-use Rattle.rb_top.specs.Judgement.{RefusedWith, Writes, EndsWith, refused_here, written_here}
-use Rattle.rb_top.specs.Answers.{Scene, Ended, EndedIn, StoppedByMissing, StoppedByMissingIn, WithRequest, by_fault, by_missing}
-use Rattle.rb_top.specs.Complete.{AreStored, IsComplete, IsUnhindered, EndsAsJudged}
-use Rattle.rb_top.specs.declared.status.Status.{Status}
-use Rattle.rb_top.specs.declared.status.Status.TheVariants.{Done, Refused, Usage, ReadFault, WriteFault, Memory}
+use Rattle.rb_stages.specs.Words.{Request}
+use Rattle.rb_stages.specs.Judgement.{RefusedWith, Writes, EndsWith, refused_here, written_here}
+use Rattle.rb_stages.specs.Answers.{Scene, Ended, EndedIn, StoppedByMissing, StoppedByMissingIn, WithRequest, by_fault, by_missing}
+use Rattle.rb_stages.specs.Complete.{AreStored, IsComplete, IsUnhindered, EndsAsJudged}
+use Rattle.rb_stages.specs.declared.status.Status.{Status}
+use Rattle.rb_stages.specs.declared.status.Status.TheVariants.{Done, Refused, Usage, ReadFault, WriteFault, Memory}
 use Rattle.rb_top.proofs.Chains.{left_of, next_stored, ends_from}
 
 -- what was written behind bytes that are told

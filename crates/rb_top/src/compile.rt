@@ -1,17 +1,17 @@
 //! The command `compile`.
 ghost use Rattle.std.specs.Prelude.{◌≡◌, [], ◌∷◌};
-ghost use Rattle.rb_top.specs.Words.{Compile, compile_of, text_named};
-ghost use Rattle.rb_top.specs.Answers.{scene_of, WithRequest};
-ghost use Rattle.rb_top.specs.Compiled.{Compiles, WritesImage};
-ghost use Rattle.rb_top.specs.Judgement.{JudgesSource, CompileGoesOn};
-ghost use Rattle.rb_top.specs.Stages.{StageEnds};
+ghost use Rattle.rb_stages.specs.Words.{Compile, compile_of, text_named};
+ghost use Rattle.rb_stages.specs.Answers.{scene_of, WithRequest};
+ghost use Rattle.rb_stages.specs.Compiled.{Compiles, WritesImage};
+ghost use Rattle.rb_stages.specs.Judgement.{JudgesSource, CompileGoesOn};
+ghost use Rattle.rb_stages.specs.Stages.{StageEnds};
 
-use crate::read::read_file;
-use crate::source::prepared_source;
-use crate::status::{Status, status_after};
 use rb_base::MOST_BYTES;
+use rb_commands::source::prepared_source;
 use rb_image::write_image;
 use rb_outside::{Shelf, Sink};
+use rb_stages::read::read_file;
+use rb_stages::status::{Status, status_after};
 use std::alloc::Global;
 
 /// Reads a source, judges it, and writes its image.

@@ -1,14 +1,14 @@
 //! The end of the program: its exit status, and a buffer before its sink.
 ghost use Rattle.std.specs.Prelude.{◌≡◌};
 ghost use Rattle.rb_outside.specs.Outside.{went_well};
-ghost use Rattle.rb_top.specs.Words.{request_of};
-ghost use Rattle.rb_top.specs.Answers.{scene_of};
-ghost use Rattle.rb_top.specs.Ending.{IsUnwritten, EndsWithNumber, Finishes};
+ghost use Rattle.rb_stages.specs.Words.{request_of};
+ghost use Rattle.rb_stages.specs.Answers.{scene_of};
+ghost use Rattle.rb_stages.specs.Ending.{IsUnwritten, EndsWithNumber, Finishes};
 
-use crate::status::{Status, status_after};
 use crate::top::command;
-use crate::words::Words;
+use rb_commands::words::Words;
 use rb_outside::{Buffered, Shelf, Sink, buffer_memory};
+use rb_stages::status::{Status, status_after};
 use std::alloc::Global;
 
 /// The sink that a command wrote to, and the exit status of the program that ends so.

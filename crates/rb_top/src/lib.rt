@@ -1,32 +1,13 @@
-//! The top call: from words, files and a sink to a status.
+//! The top call: from words, files and a sink to a status. Here are what may be done with compiled code, `compile`, `run`, `survive` and
+//! `stuck`; the other commands are those of rb_commands.
 #![tactic(auto)]
 
-pub mod analyse;
-pub mod check;
-pub mod code;
 pub mod compile;
 pub mod ending;
-pub mod image;
-pub mod laws;
-pub mod load;
-pub mod number;
 pub mod over_schedule;
-pub mod plain;
-pub mod read;
-pub mod refuse;
-pub mod request;
-pub mod run_turns;
-pub mod session;
-pub mod source;
-pub mod status;
-pub mod summary;
-pub mod survey_turns;
-pub mod survive_turns;
 pub mod top;
-pub mod trial;
-pub mod words;
 
 pub use ending::{Carried, carry_out};
-pub use status::Status;
+pub use rb_commands::Words;
+pub use rb_stages::Status;
 pub use top::command;
-pub use words::Words;

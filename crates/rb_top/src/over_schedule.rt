@@ -4,38 +4,28 @@ ghost use Rattle.rb_base.specs.declared.limits.TheConstants.{MOST_BYTES, MOST_TU
 ghost use Rattle.rb_code.specs.Instructions.Plain.{code as plain};
 ghost use Rattle.rb_conv.specs.Conversations.{memberships, opening};
 ghost use Rattle.rb_prepare.specs.Prepared.{IsPrepared};
-ghost use Rattle.rb_top.specs.Words.{text_named};
-ghost use Rattle.rb_top.specs.Products.{request_for, text_for, word_text_for};
-ghost use Rattle.rb_top.specs.Answers.{scene_of, before_start, WithRequest};
-ghost use Rattle.rb_top.specs.Judgement.{Writes};
-ghost use Rattle.rb_top.specs.Read.{WasReadIn};
-ghost use Rattle.rb_top.specs.Stages.{EndsForSchedule, HasSource, StageEnds};
+ghost use Rattle.rb_stages.specs.Words.{text_named};
+ghost use Rattle.rb_stages.specs.Products.{request_for, text_for, word_text_for};
+ghost use Rattle.rb_stages.specs.Answers.{scene_of, before_start, WithRequest};
+ghost use Rattle.rb_stages.specs.Judgement.{Writes};
+ghost use Rattle.rb_stages.specs.Read.{WasReadIn};
+ghost use Rattle.rb_stages.specs.Stages.{EndsForSchedule, HasSource, StageEnds};
 
-use crate::read::read_file;
-use crate::refuse::{refuse_long, refuse_text};
-use crate::run_turns::run_turns;
-use crate::source::prepared_source;
-use crate::status::{Status, status_after};
-use crate::survey_turns::survey_turns;
-use crate::survive_turns::survive_turns;
 use rb_base::MOST_BYTES;
+use rb_commands::source::prepared_source;
+use rb_commands::survey_turns::survey_turns;
+use rb_commands::survive_turns::survive_turns;
 use rb_outside::{Shelf, Sink};
 use rb_prepare::Prepared;
 use rb_sched::Schedule;
+use rb_stages::product::Product;
+use rb_stages::read::read_file;
+use rb_stages::refuse::{refuse_long, refuse_text};
+use rb_stages::run_turns::run_turns;
+use rb_stages::status::{Status, status_after};
 use std::alloc::Global;
 use std::marker::Brand;
 use std::sync::ledger::Blank;
-
-/// What a command makes of a source and a schedule for it.
-#[derive(Clone, Copy)]
-pub enum Product {
-    /// The text of the run, for `run`.
-    Text,
-    /// The survivors of the run as a record, for `survive`.
-    Survivors,
-    /// How the run stands at its end, for `stuck`.
-    Standing,
-}
 
 /// Reads and judges a source, then a schedule for it, and writes what is made of the one over the other.
 pub fn over_files<F: Shelf, S: Sink>(

@@ -1,25 +1,26 @@
 //! The top call: from words to a status.
 ghost use Rattle.std.specs.Prelude.{◌≡◌};
-ghost use Rattle.rb_top.specs.Words.{request_of};
-ghost use Rattle.rb_top.specs.Asked.{asked};
-ghost use Rattle.rb_top.specs.Complete.{IsComplete};
-ghost use Rattle.rb_top.specs.Compiled.{Compiles, CompilesWhereAsked};
-ghost use Rattle.rb_top.specs.Answers.{scene_of, WithRequest, WhereRequested};
+ghost use Rattle.rb_stages.specs.Words.{request_of};
+ghost use Rattle.rb_commands.specs.Asked.{asked};
+ghost use Rattle.rb_stages.specs.Complete.{IsComplete};
+ghost use Rattle.rb_stages.specs.Compiled.{Compiles, CompilesWhereAsked};
+ghost use Rattle.rb_stages.specs.Answers.{scene_of, WithRequest, WhereRequested};
 
-use crate::analyse::analyse_file;
-use crate::check::check_file;
-use crate::code::code_file;
 use crate::compile::compile_file;
-use crate::load::load_files;
-use crate::over_schedule::{Product, over_files};
-use crate::plain::plain_files;
-use crate::refuse::put_usage;
-use crate::request::{Request, requested};
-use crate::session::show_files;
-use crate::status::{Status, status_after};
-use crate::trial::try_number;
-use crate::words::Words;
+use crate::over_schedule::over_files;
+use rb_commands::analyse::analyse_file;
+use rb_commands::check::check_file;
+use rb_commands::code::code_file;
+use rb_commands::load::load_files;
+use rb_commands::plain::plain_files;
+use rb_commands::request::{Request, requested};
+use rb_commands::session::show_files;
+use rb_commands::trial::try_number;
+use rb_commands::words::Words;
 use rb_outside::{Shelf, Sink};
+use rb_stages::product::Product;
+use rb_stages::refuse::put_usage;
+use rb_stages::status::{Status, status_after};
 use std::alloc::Global;
 
 /// Carries out the command that the words give. `run SOURCE SCHEDULE` writes the text of the run of a source over a schedule, `survive

@@ -1,10 +1,10 @@
 use Rattle.std.proofs.Common.{Option, List, [], ◌∷◌, option_map, sym, subst}
 use Rattle.rb_base.specs.declared.limits.TheConstants.{MOST_BYTES}
 use Rattle.rb_outside.specs.Outside.{File}
-use Rattle.rb_top.specs.Words.{text_named}
-use Rattle.rb_top.specs.Read.{WasReadIn}
-use Rattle.rb_top.specs.Stages.{HasReadIn}
-use Rattle.rb_top.proofs.Answering.{unread_ends}
+use Rattle.rb_stages.specs.Words.{text_named}
+use Rattle.rb_stages.specs.Read.{WasReadIn}
+use Rattle.rb_stages.specs.Stages.{HasReadIn}
+use Rattle.rb_stages.proofs.Answering.{unread_ends}
 use Rattle.rb_show.proofs.Drawings.{after_read}
 use Rattle.rb_show.proofs.draw.draw.Goals as goal
 

@@ -1,6 +1,6 @@
 use Rattle.std.proofs.Common.{[], ◌∷◌, ◌++◌, option_map}
-use Rattle.rb_top.specs.Words.{text_named}
-use Rattle.rb_top.proofs.Answering.{next_judged, unread_ends}
+use Rattle.rb_stages.specs.Words.{text_named}
+use Rattle.rb_stages.proofs.Answering.{next_judged, unread_ends}
 use Rattle.rb_show.specs.Drawing.{EndsDrawn}
 use Rattle.rb_show.proofs.Drawings.{schedule_long, schedule_short}
 use Rattle.rb_show.proofs.Ready.{accepted_ready}

@@ -1,7 +1,7 @@
 use Rattle.std.proofs.Common.{[], ◌∷◌, option_map, refl}
-use Rattle.rb_top.specs.Words.{text_named}
-use Rattle.rb_top.specs.Stages.{EndsForSource}
-use Rattle.rb_top.proofs.Answering.{next_judged, reads_text}
+use Rattle.rb_stages.specs.Words.{text_named}
+use Rattle.rb_stages.specs.Stages.{EndsForSource}
+use Rattle.rb_stages.proofs.Answering.{next_judged, reads_text}
 use Rattle.rb_show.proofs.Drawings.{after_nothing, source_long, source_short}
 use Rattle.rb_show.proofs.draw.draw_source.Goals as goal
 

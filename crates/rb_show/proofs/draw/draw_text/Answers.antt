@@ -1,8 +1,8 @@
 use Rattle.std.proofs.Common.{◌≡◌, ap, option_map, refl}
-use Rattle.rb_top.specs.Judgement.{long_schedule, text_line, too_long_line}
-use Rattle.rb_top.proofs.Answering.{line_ends}
-use Rattle.rb_top.proofs.Loaded.{code_names_fit, is_sound}
-use Rattle.rb_top.proofs.Sources.{stage_as}
+use Rattle.rb_stages.specs.Judgement.{long_schedule, text_line, too_long_line}
+use Rattle.rb_stages.proofs.Answering.{line_ends}
+use Rattle.rb_stages.proofs.Loaded.{code_names_fit, is_sound}
+use Rattle.rb_stages.proofs.Sources.{stage_as}
 use Rattle.rb_show.specs.Drawing.{EndsDrawn}
 use Rattle.rb_show.proofs.Ready.{at_fault, drawn_over}
 use Rattle.rb_show.proofs.draw.draw_text.Goals as goal

@@ -1,8 +1,8 @@
 use Rattle.std.proofs.Common.{◌<◌, ◌≤◌, List, [], ◌∷◌, drop, length, refl, arith}
 use Rattle.rb_base.specs.declared.limits.TheConstants.{MOST_BYTES}
-use Rattle.rb_top.specs.Words.{Page, page_of, text_named}
-use Rattle.rb_top.specs.Judgement.{JudgesPage, page_refused, reads_page, too_long_line}
-use Rattle.rb_top.proofs.Answering.{line_ends, next_judged, nothing_read, reads_text}
+use Rattle.rb_stages.specs.Words.{Page, page_of, text_named}
+use Rattle.rb_stages.specs.Judgement.{JudgesPage, page_refused, reads_page, too_long_line}
+use Rattle.rb_stages.proofs.Answering.{line_ends, next_judged, nothing_read, reads_text}
 use Rattle.rb_show.proofs.Drawings.{pages_draw, long_pages}
 use Rattle.rb_show.proofs.draw.in_page.Goals as goal
 

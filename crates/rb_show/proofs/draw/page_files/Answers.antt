@@ -1,11 +1,11 @@
 use Rattle.std.proofs.Common.{Option, List, [], ◌∷◌, drop, sym, subst}
 use Rattle.rb_base.specs.declared.limits.TheConstants.{MOST_BYTES}
 use Rattle.rb_outside.specs.Outside.{File}
-use Rattle.rb_top.specs.Words.{page_of, text_named}
-use Rattle.rb_top.specs.Answers.{Scene, WithRequest}
-use Rattle.rb_top.specs.Judgement.{reads_page}
-use Rattle.rb_top.specs.Read.{WasReadIn}
-use Rattle.rb_top.proofs.Answering.{nothing_read, unread_ends, resumed, read_others, read_again}
+use Rattle.rb_stages.specs.Words.{page_of, text_named}
+use Rattle.rb_stages.specs.Answers.{Scene, WithRequest}
+use Rattle.rb_stages.specs.Judgement.{reads_page}
+use Rattle.rb_stages.specs.Read.{WasReadIn}
+use Rattle.rb_stages.proofs.Answering.{nothing_read, unread_ends, resumed, read_others, read_again}
 use Rattle.rb_show.proofs.draw.page_files.Goals as goal
 
 pub in_page-requires : goal.in_page-requires

@@ -1,6 +1,6 @@
 use Rattle.std.proofs.Common.{[], ◌∷◌}
-use Rattle.rb_top.specs.Words.{text_named, trace_of}
-use Rattle.rb_top.proofs.Answering.{nothing_read}
+use Rattle.rb_stages.specs.Words.{text_named, trace_of}
+use Rattle.rb_stages.proofs.Answering.{nothing_read}
 use Rattle.rb_show.proofs.Drawings.{traces_draw}
 use Rattle.rb_show.proofs.draw.trace_files.Goals as goal
 

@@ -1,5 +1,5 @@
 use Rattle.std.proofs.Common.{◌≡◌, ◌∙◌, Option, Some, None, option_map, inl, ap, sym, subst}
-use Rattle.rb_top.specs.Answers.{Scene}
+use Rattle.rb_stages.specs.Answers.{Scene}
 use Rattle.rb_show.specs.Answers.{WhereWished}
 use Rattle.rb_show.specs.Words.{Wish, wish_of}
 use Rattle.rb_show.specs.Wished.{asked}

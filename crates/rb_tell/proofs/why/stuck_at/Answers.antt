@@ -1,4 +1,4 @@
-use Rattle.rb_top.proofs.Recorded.{members_are}
+use Rattle.rb_commands.proofs.Recorded.{members_are}
 use Rattle.rb_tell.proofs.why.stuck_at.Goals as goal
 
 pub stuck_cause-requires : goal.stuck_cause-requires

@@ -1,10 +1,10 @@
 use Rattle.std.proofs.Common.{[]}
-use Rattle.rb_top.specs.Words.{Compile, compile_of, text_named}
-use Rattle.rb_top.specs.Answers.{Scene}
-use Rattle.rb_top.specs.Judgement.{CompileGoesOn, at_first}
-use Rattle.rb_top.proofs.Answering.{nothing_read, unread_ends}
-use Rattle.rb_top.proofs.Compiled.{image_of_file, none_of_file}
-use Rattle.rb_top.proofs.Sources.{source_judged}
+use Rattle.rb_stages.specs.Words.{Compile, compile_of, text_named}
+use Rattle.rb_stages.specs.Answers.{Scene}
+use Rattle.rb_stages.specs.Judgement.{CompileGoesOn, at_first}
+use Rattle.rb_stages.proofs.Answering.{nothing_read, unread_ends}
+use Rattle.rb_commands.proofs.Compiled.{image_of_file, none_of_file}
+use Rattle.rb_stages.proofs.Sources.{source_judged}
 use Rattle.rb_top.proofs.compile.compile_file.Goals as goal
 
 pub returns-in-Ok-clause-answers : goal.returns-in-Ok-clause-answers

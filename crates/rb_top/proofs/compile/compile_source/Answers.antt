@@ -1,11 +1,11 @@
 use Rattle.std.proofs.Common.{[], ◌∷◌, refl}
 use Rattle.rb_code.specs.Instructions.Plain.{code}
-use Rattle.rb_top.specs.Judgement.{JudgesSource, CompileGoesOn, compiles, first_accepted}
-use Rattle.rb_top.specs.Stages.{EndsForSource}
-use Rattle.rb_top.proofs.Loaded.{image_for, made_for}
-use Rattle.rb_top.proofs.Answering.{text_ends}
-use Rattle.rb_top.proofs.Compiled.{image_written, none_written}
-use Rattle.rb_top.proofs.Sources.{source_ends, stage_as}
+use Rattle.rb_stages.specs.Judgement.{JudgesSource, CompileGoesOn, compiles, first_accepted}
+use Rattle.rb_stages.specs.Stages.{EndsForSource}
+use Rattle.rb_stages.proofs.Loaded.{image_for, made_for}
+use Rattle.rb_stages.proofs.Answering.{text_ends}
+use Rattle.rb_commands.proofs.Compiled.{image_written, none_written}
+use Rattle.rb_stages.proofs.Sources.{source_ends, stage_as}
 use Rattle.rb_top.proofs.compile.compile_source.Goals as goal
 
 pub returns-in-Ok-clause-answers : goal.returns-in-Ok-clause-answers

@@ -1,9 +1,9 @@
 use Rattle.std.proofs.Common.{◌≡◌, ◌&&◌, drop, refl, sym, ap, subst, ◌∙◌}
 use Rattle.rb_outside.specs.Outside.{went_well, then_written}
 use Rattle.rb_outside.proofs.Written.{then_written-nil}
-use Rattle.rb_top.specs.Words.{request_of}
-use Rattle.rb_top.specs.Answers.{Scene}
-use Rattle.rb_top.specs.Ending.{EndsWithNumber}
+use Rattle.rb_stages.specs.Words.{request_of}
+use Rattle.rb_stages.specs.Answers.{Scene}
+use Rattle.rb_stages.specs.Ending.{EndsWithNumber}
 use Rattle.rb_top.proofs.Behind.{ends_behind, ends_without_memory, begins_empty}
 use Rattle.rb_top.proofs.ending.carry_out.Goals as goal
 

@@ -1,13 +1,13 @@
 use Rattle.std.proofs.Common.{Option, List, [], ◌∷◌, drop, sym, subst}
 use Rattle.rb_base.specs.declared.limits.TheConstants.{MOST_BYTES}
 use Rattle.rb_outside.specs.Outside.{File}
-use Rattle.rb_top.specs.Words.{text_named}
-use Rattle.rb_top.specs.Products.{request_for}
-use Rattle.rb_top.specs.Answers.{Scene, WithRequest}
-use Rattle.rb_top.specs.Judgement.{ReadsOn, at_first}
-use Rattle.rb_top.specs.Read.{WasReadIn}
-use Rattle.rb_top.proofs.Answering.{nothing_read, unread_ends, resumed, read_others, read_again}
-use Rattle.rb_top.proofs.Sources.{judges_for}
+use Rattle.rb_stages.specs.Words.{text_named}
+use Rattle.rb_stages.specs.Products.{request_for}
+use Rattle.rb_stages.specs.Answers.{Scene, WithRequest}
+use Rattle.rb_stages.specs.Judgement.{ReadsOn, at_first}
+use Rattle.rb_stages.specs.Read.{WasReadIn}
+use Rattle.rb_stages.proofs.Answering.{nothing_read, unread_ends, resumed, read_others, read_again}
+use Rattle.rb_stages.proofs.Sources.{judges_for}
 use Rattle.rb_top.proofs.over_schedule.over_files.Goals as goal
 
 pub over_source-requires : goal.over_source-requires

@@ -1,13 +1,13 @@
 use Rattle.std.proofs.Common.{◌≡◌, ap}
 use Rattle.rb_code.specs.Instructions.Plain.{code}
 use Rattle.rb_conv.specs.Conversations.{memberships, opening}
-use Rattle.rb_top.specs.Judgement.{Writes, text_line, too_long_line}
-use Rattle.rb_top.specs.Products.{text_for, word_text_for}
-use Rattle.rb_top.specs.Stages.{EndsForSchedule}
-use Rattle.rb_top.proofs.Answering.{line_ends}
-use Rattle.rb_top.proofs.Loaded.{texts_as_meant}
-use Rattle.rb_top.proofs.Scheduled.{ends_long, ends_refused, ends_written}
-use Rattle.rb_top.proofs.Sources.{stage_as}
+use Rattle.rb_stages.specs.Judgement.{Writes, text_line, too_long_line}
+use Rattle.rb_stages.specs.Products.{text_for, word_text_for}
+use Rattle.rb_stages.specs.Stages.{EndsForSchedule}
+use Rattle.rb_stages.proofs.Answering.{line_ends}
+use Rattle.rb_stages.proofs.Loaded.{texts_as_meant}
+use Rattle.rb_commands.proofs.Scheduled.{ends_long, ends_refused, ends_written}
+use Rattle.rb_stages.proofs.Sources.{stage_as}
 use Rattle.rb_top.proofs.over_schedule.over_schedule.Goals as goal
 
 pub returns-then-bytes-gt-MOST_BYTES : goal.returns-then-bytes-gt-MOST_BYTES

@@ -1,11 +1,11 @@
 use Rattle.std.proofs.Common.{[], ◌∷◌, drop, refl}
 use Rattle.rb_prepare.specs.Prepared.{IsPrepared}
-use Rattle.rb_top.specs.Words.{text_named}
-use Rattle.rb_top.specs.Products.{command_for, request_for, text_for}
-use Rattle.rb_top.specs.Judgement.{JudgesSource, OverSchedule, ReadsOn, at_first}
-use Rattle.rb_top.specs.Stages.{EndsForSource}
-use Rattle.rb_top.proofs.Answering.{nothing_read}
-use Rattle.rb_top.proofs.Sources.{judges_for, source_ends, source_judged, source_read, stage_as}
+use Rattle.rb_stages.specs.Words.{text_named}
+use Rattle.rb_stages.specs.Products.{command_for, request_for, text_for}
+use Rattle.rb_stages.specs.Judgement.{JudgesSource, OverSchedule, ReadsOn, at_first}
+use Rattle.rb_stages.specs.Stages.{EndsForSource}
+use Rattle.rb_stages.proofs.Answering.{nothing_read}
+use Rattle.rb_stages.proofs.Sources.{judges_for, source_ends, source_judged, source_read, stage_as}
 use Rattle.rb_top.proofs.over_schedule.over_source.Goals as goal
 
 pub returns-in-Err-clause-answers : goal.returns-in-Err-clause-answers

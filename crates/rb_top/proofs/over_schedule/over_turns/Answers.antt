@@ -1,4 +1,4 @@
-use Rattle.rb_top.proofs.Loaded.{code_names_fit, is_sound}
+use Rattle.rb_stages.proofs.Loaded.{code_names_fit, is_sound}
 use Rattle.rb_top.proofs.over_schedule.over_turns.Goals as goal
 
 pub run_turns-requires-clause-sound : goal.run_turns-requires-clause-sound

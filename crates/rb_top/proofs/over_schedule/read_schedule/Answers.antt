@@ -1,8 +1,8 @@
 use Rattle.std.proofs.Common.{[], ◌∷◌, drop}
-use Rattle.rb_top.specs.Words.{text_named}
-use Rattle.rb_top.specs.Products.{request_for}
-use Rattle.rb_top.proofs.Answering.{unread_ends}
-use Rattle.rb_top.proofs.Sources.{schedule_judged, schedule_wanted}
+use Rattle.rb_stages.specs.Words.{text_named}
+use Rattle.rb_stages.specs.Products.{request_for}
+use Rattle.rb_stages.proofs.Answering.{unread_ends}
+use Rattle.rb_stages.proofs.Sources.{schedule_judged, schedule_wanted}
 use Rattle.rb_top.proofs.over_schedule.read_schedule.Goals as goal
 
 pub over_schedule-requires : goal.over_schedule-requires

@@ -1,5 +1,5 @@
-use Rattle.rb_top.specs.Words.{Trial}
-use Rattle.rb_top.proofs.Answering.{no_file_judged}
+use Rattle.rb_stages.specs.Words.{Trial}
+use Rattle.rb_stages.proofs.Answering.{no_file_judged}
 use Rattle.rb_top.proofs.top.answer.Goals as goal
 
 pub returns-in-Trial-clause-answers : goal.returns-in-Trial-clause-answers

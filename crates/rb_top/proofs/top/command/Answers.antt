@@ -1,11 +1,11 @@
 use Rattle.std.proofs.Common.{◌≡◌, ◌∙◌, Option, Some, option_map, ap, sym, subst}
-use Rattle.rb_top.specs.Answers.{Scene}
-use Rattle.rb_top.specs.Complete.{IsComplete}
-use Rattle.rb_top.specs.Compiled.{CompilesWhereAsked}
-use Rattle.rb_top.specs.Words.{Request, request_of}
-use Rattle.rb_top.specs.Asked.{asked}
-use Rattle.rb_top.proofs.Answering.{memory_at_once}
-use Rattle.rb_top.proofs.Compiled.{nothing_asked}
+use Rattle.rb_stages.specs.Answers.{Scene}
+use Rattle.rb_stages.specs.Complete.{IsComplete}
+use Rattle.rb_stages.specs.Compiled.{CompilesWhereAsked}
+use Rattle.rb_stages.specs.Words.{Request, request_of}
+use Rattle.rb_commands.specs.Asked.{asked}
+use Rattle.rb_stages.proofs.Answering.{memory_at_once}
+use Rattle.rb_commands.proofs.Compiled.{nothing_asked}
 use Rattle.rb_top.proofs.Complete.{complete_at_once, completed}
 use Rattle.rb_top.proofs.top.command.Goals as goal
 

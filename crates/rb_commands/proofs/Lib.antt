@@ -1,0 +1,17 @@
+pub mod Histories
+pub mod Judged
+pub mod BothTexts
+pub mod KeptTurns
+pub mod RecordsReadBack
+pub mod SurvivorsKept
+pub mod SurvivorsReplay
+pub mod AllJudged
+pub mod Compiled
+pub mod Surveys
+pub mod Digits
+pub mod Scheduled
+pub mod Sessions
+pub mod Trials
+pub mod Recorded
+pub mod CommandLine
+pub mod ErasedAccepted

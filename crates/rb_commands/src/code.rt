@@ -1,0 +1,43 @@
+//! The command `code`.
+ghost use Rattle.std.specs.Prelude.{◌≡◌, [], ◌∷◌};
+ghost use Rattle.rb_stages.specs.Words.{code_of};
+ghost use Rattle.rb_stages.specs.Answers.{scene_of, WithRequest};
+ghost use Rattle.rb_stages.specs.Judgement.{JudgesSource, CodeGoesOn};
+ghost use Rattle.rb_stages.specs.Stages.{StageEnds};
+
+use crate::source::prepared_source;
+use rb_base::MOST_BYTES;
+use rb_code::listing::listing;
+use rb_outside::{Shelf, Sink};
+use rb_stages::read::read_file;
+use rb_stages::status::{Status, status_after};
+use std::alloc::Global;
+
+/// Reads a source, judges it, and lists its code.
+pub fn code_file<F: Shelf, S: Sink>(
+    alloc: Global,
+    source: &str,
+    shelf: &mut F,
+    out: &mut S,
+) -> Status
+    ensures files { F.files shelf.new ≡ F.files shelf.old }
+    ensures answers { WithRequest (code_of source.now)
+        (scene_of F.files F.starts F.faults S.written S.faults shelf.old out.old)
+        (scene_of F.files F.starts F.faults S.written S.faults shelf.new out.new)
+        result }
+{
+    match read_file(alloc, shelf, source, MOST_BYTES) {
+        Ok(bytes) => code_source(alloc, bytes.as_slice(), out),
+        Err(unread) => unread.status(),
+    }
+}
+
+fn code_source<S: Sink>(alloc: Global, bytes: &[u8], out: &mut S) -> Status
+    ensures { StageEnds (JudgesSource CodeGoesOn (bytes.now ∷ [])) (S.written out.old) (S.written out.new)
+        (S.faults out.old) (S.faults out.new) result }
+{
+    match prepared_source(alloc, bytes, out) {
+        Ok(prepared) => status_after(listing(&prepared.code, out), Status::Done),
+        Err(status) => status,
+    }
+}

@@ -1,0 +1,5 @@
+pub mod Reading
+pub mod Answering
+pub mod Sources
+pub mod Images
+pub mod Loaded
