@@ -5,6 +5,7 @@
 pub mod analyse;
 pub mod check;
 pub mod code;
+pub mod image;
 pub mod laws;
 pub mod load;
 pub mod number;

@@ -6,9 +6,10 @@ ghost use Rattle.rb_stages.specs.Answers.{scene_of, before_start, WithRequest};
 ghost use Rattle.rb_stages.specs.Read.{WasReadIn};
 ghost use Rattle.rb_stages.specs.Stages.{HasImage};
 
+use crate::image::accepted_image;
 use rb_base::MOST_BYTES;
 use rb_outside::{Shelf, Sink};
-use rb_stages::image::{Image, MOST_IMAGE, accepted_image};
+use rb_stages::image::{Image, MOST_IMAGE};
 use rb_stages::read::read_file;
 use rb_stages::status::Status;
 use std::alloc::Global;

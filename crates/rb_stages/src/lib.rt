@@ -1,5 +1,5 @@
-//! What a command is asked for and comes to, and the stages that commands share: a file is read, an image is judged, code runs over turns,
-//! and a text is refused with a line.
+//! What a command is asked for and comes to, and the stages that commands share: a file is read, code runs over turns, an image is taken that
+//! may be run, and a text is refused with a line.
 #![tactic(auto)]
 
 pub mod image;

@@ -2,7 +2,7 @@ use Rattle.std.proofs.Common.{subst}
 use Rattle.rb_stages.specs.Judgement.{unsound_line}
 use Rattle.rb_stages.specs.Stages.{EndsForImage, IsUnfitImage}
 use Rattle.rb_stages.proofs.Answering.{line_ends}
-use Rattle.rb_stages.proofs.image.refused_program.Goals as goal
+use Rattle.rb_commands.proofs.image.refused_program.Goals as goal
 
 pub returns-in-Unsound : goal.returns-in-Unsound
 returns-in-Unsound g c =

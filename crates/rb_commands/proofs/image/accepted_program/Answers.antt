@@ -1,6 +1,6 @@
 use Rattle.rb_stages.specs.Judgement.{program_of}
 use Rattle.rb_stages.proofs.Images.{image_held, unfit_image}
-use Rattle.rb_stages.proofs.image.accepted_program.Goals as goal
+use Rattle.rb_commands.proofs.image.accepted_program.Goals as goal
 
 pub returns-in-Ok-clause-holds : goal.returns-in-Ok-clause-holds
 returns-in-Ok-clause-holds g c =
