@@ -1,5 +1,5 @@
-//! The commands: which of them words ask for, what each makes of its files, and the laws of their judgements. `compile`, and `run`, `survive`
-//! and `stuck` over a source and a schedule, stand in rb_top, with the call that carries all of them out.
+//! The commands: which of them words ask for, what each makes of its files, and the laws of their judgements. Of `compile`, `run`, `survive`
+//! and `stuck` only parts stand here: they are carried out in rb_top.
 #![tactic(auto)]
 
 pub mod analyse;

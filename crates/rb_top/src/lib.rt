@@ -1,5 +1,5 @@
-//! The top call: from words, files and a sink to a status. Here are what may be done with compiled code, `compile`, `run`, `survive` and
-//! `stuck`; the other commands are those of rb_commands.
+//! The top call: from words, files and a sink to a status. `compile`, and `run`, `survive` and `stuck` over a source and a schedule, stand
+//! here too; the other commands are those of rb_commands.
 #![tactic(auto)]
 
 pub mod compile;
