@@ -17,7 +17,6 @@ use rb_judge::Judged;
 use rb_levels::PlainAnswer;
 use rb_outside::{Shelf, Sink};
 use rb_record::{Record, RecordRefusal};
-use rb_levels::PlainAnswer;
 use rb_plain::plain;
 use rb_stages::read::read_file;
 use rb_stages::refuse::{refuse_long, refuse_stuck, refuse_text};
