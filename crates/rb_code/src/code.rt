@@ -1,5 +1,7 @@
 //! The code of a program: what `rbl code` lists and the machine executes.
 
+ghost use Rattle.std.specs.Prelude.{◌≡◌};
+
 use crate::instr::Instr;
 use rb_base::{Edition, Names, Text};
 
