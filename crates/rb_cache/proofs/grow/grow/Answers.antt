@@ -1,3 +1,4 @@
+use Rattle.std.proofs.lemmas.Grind.{common_steps}
 use Rattle.std.proofs.lemmas.List.{replicate-append-replicate}
 use Rattle.std.proofs.Common.{◌≡◌, ◌-◌, ◌+◌, ◌≤◌, ◌++◌, ◌∷◌, [], List, ℕ, ◌∙◌, ap, sym, length, replicate, arith, rules, append_assoc}
 use Rattle.rb_cache.proofs.grow.grow.Goals as goal
@@ -26,3 +27,6 @@ loop-i-preserved c = record {
   to = omega (arith, c.loop-i-test.true);
   room = search rules;
 }
+
+pub push_reserved-requires : goal.push_reserved-requires
+push_reserved-requires c = grind (arith, common_steps)

@@ -82,3 +82,6 @@ loop-arena-init g c = grind (arith, common_steps)
 
 pub returns-clause-cells : goal.returns-clause-cells
 returns-clause-cells g c = grind (arith, common_steps)
+
+pub returns-clause-stamped : goal.returns-clause-stamped
+returns-clause-stamped g c = grind (arith, common_steps)

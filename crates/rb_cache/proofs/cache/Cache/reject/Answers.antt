@@ -89,3 +89,6 @@ index-top-requires g c = grind (arith, common_steps)
 
 pub overflow_sub-len : goal.overflow_sub-len
 overflow_sub-len g c = grind (arith, common_steps)
+
+pub undo-requires-clause-stamped : goal.undo-requires-clause-stamped
+undo-requires-clause-stamped g c = grind (arith, common_steps)

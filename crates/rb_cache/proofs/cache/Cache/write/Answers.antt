@@ -64,3 +64,9 @@ invariant_of-self g c =
       reach = omega (arith, h.size, c.self.invariant.reach);
       holds = Holds-sized n (reverse i.marks.items) st log h;
     }
+
+pub save_prior-requires-clause-within : goal.save_prior-requires-clause-within
+save_prior-requires-clause-within g c = grind (arith, common_steps)
+
+pub save_prior-requires-clause-holds : goal.save_prior-requires-clause-holds
+save_prior-requires-clause-holds g c = grind (arith, common_steps)
