@@ -14,3 +14,6 @@ loop-rest-preserved c = (
 
 pub returns-clause-value : goal.returns-clause-value
 returns-clause-value c = grind (arith, common_steps)
+
+pub returns-then-passed-ge-LONGEST_TEXT-clause-within : goal.returns-then-passed-ge-LONGEST_TEXT-clause-within
+returns-then-passed-ge-LONGEST_TEXT-clause-within c = grind (arith, common_steps)
