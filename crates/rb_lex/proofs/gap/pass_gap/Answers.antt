@@ -1,5 +1,4 @@
-use Rattle.std.proofs.lemmas.Grind.{common_steps}
-use Rattle.std.proofs.Common.{sym, ◌∙◌, arith}
+use Rattle.std.proofs.Common.{sym, ◌∙◌}
 use Rattle.rb_lex.proofs.Steps.{passed, begins, HasRoom-after}
 use Rattle.rb_lex.proofs.gap.pass_gap.Goals as goal
 
@@ -17,6 +16,3 @@ pub returns-in-Begin-clause-passes : goal.returns-in-Begin-clause-passes
 returns-in-Begin-clause-passes c =
     λ edition. sym (c.loop-left.invariant.0 edition)
     ∙ begins edition c.loop-left.in_comment c.loop-left.place c.loop-left.left.now c.in-len1-up.len_at_least (sym c.in-Begin.ensures)
-
-pub returns-in-Fault-clause-passes : goal.returns-in-Fault-clause-passes
-returns-in-Fault-clause-passes c = grind (arith, common_steps)

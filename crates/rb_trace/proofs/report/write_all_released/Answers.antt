@@ -57,3 +57,6 @@ returns-clause-none_waits g c =
 
 pub returns-clause-text : goal.returns-clause-text
 returns-clause-text g c = grind (arith, common_steps)
+
+pub loop-process-init : goal.loop-process-init
+loop-process-init g c = grind (arith, common_steps)
