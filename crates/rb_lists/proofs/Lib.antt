@@ -1,5 +1,6 @@
 -- Lemmas.
 pub mod Mapped
+pub mod Each
 pub mod Differing
 pub mod Counted
 pub mod Listed

@@ -13,9 +13,14 @@ use rb_code::{BlockCode, Code};
 pub(crate) fn are_blocks(code: &Code, groups: &[Group]) -> bool
     ensures { IsTrue result ↔ All (λ block. IsBlock (plain code.now) (map membership groups.now) (plain_block block)) code.now.blocks.items }
 {
-    code.blocks
-        .iter()
-        .all(|block| is_block(code, groups, block))
+    let mut rest = code.blocks.as_slice();
+    'entries: while let [block, after @ ..] = rest {
+        if !is_block(code, groups, block) {
+            return false;
+        }
+        rest = after;
+    }
+    true
 }
 
 fn is_block(code: &Code, groups: &[Group], block: &BlockCode) -> bool
@@ -53,5 +58,12 @@ fn stand_there(instrs: usize, block: &BlockCode) -> bool
 fn are_there(instrs: usize, addresses: &[u32]) -> bool
     ensures { IsTrue result ↔ All (λ address. address < instrs) addresses.now }
 {
-    addresses.iter().all(|address| (*address as usize) < instrs)
+    let mut rest = addresses;
+    'addresses: while let [address, after @ ..] = rest {
+        if *address as usize >= instrs {
+            return false;
+        }
+        rest = after;
+    }
+    true
 }

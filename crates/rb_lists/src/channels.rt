@@ -13,7 +13,14 @@ use rb_code::{ChannelCode, Code};
 pub(crate) fn all_join_two(code: &Code) -> bool
     ensures { IsTrue result ↔ All (λ channel. JoinsTwo (plain code.now) (plain_channel channel)) code.now.channels.items }
 {
-    code.channels.iter().all(|channel| joins_two(code, channel))
+    let mut rest = code.channels.as_slice();
+    'channels: while let [channel, after @ ..] = rest {
+        if !joins_two(code, channel) {
+            return false;
+        }
+        rest = after;
+    }
+    true
 }
 
 fn joins_two(code: &Code, channel: &ChannelCode) -> bool

@@ -14,7 +14,14 @@ use rb_base::{Group, MOST_NESTED};
 pub(crate) fn have_members(processes: usize, groups: &[Group]) -> bool
     ensures { IsTrue result ↔ All (λ group. HasMembers processes (membership group)) groups.now }
 {
-    groups.iter().all(|group| has_members(processes, group))
+    let mut rest = groups;
+    'groups: while let [group, after @ ..] = rest {
+        if !has_members(processes, group) {
+            return false;
+        }
+        rest = after;
+    }
+    true
 }
 
 fn has_members(processes: usize, group: &Group) -> bool
@@ -40,7 +47,14 @@ fn are_different(processes: usize, members: &[u32]) -> bool
 pub(crate) fn have_parents(groups: &[Group]) -> bool
     ensures { IsTrue result ↔ All (λ group. HasParent (map membership groups.now) (membership group)) groups.now }
 {
-    groups.iter().all(|group| has_parent(groups, group))
+    let mut rest = groups;
+    'groups: while let [group, after @ ..] = rest {
+        if !has_parent(groups, group) {
+            return false;
+        }
+        rest = after;
+    }
+    true
 }
 
 fn has_parent(groups: &[Group], group: &Group) -> bool
@@ -58,22 +72,34 @@ fn has_parent(groups: &[Group], group: &Group) -> bool
 fn are_members(members: &[u32], around: &[u32]) -> bool
     ensures { result ≡ list_all (λ member. list_any (λ other. nat_eq other member) around.now) members.now }
 {
-    members.iter().all(|member| is_member(*member, around))
+    let mut rest = members;
+    'members: while let [member, after @ ..] = rest {
+        if !is_member(*member, around) {
+            return false;
+        }
+        rest = after;
+    }
+    true
 }
 
 fn is_member(member: u32, members: &[u32]) -> bool
     ensures { result ≡ list_any (λ other. nat_eq other member) members.now }
 {
-    members.iter().any(|other| *other == member)
+    members.contains(&member)
 }
 
 /// Whether each conversation lies in few enough others.
 pub(crate) fn are_chains(groups: &[Group]) -> bool
     ensures { IsTrue result ↔ All (λ group. IsChain (map membership groups.now) (MOST_NESTED - 1) group.parent) groups.now }
 {
-    groups
-        .iter()
-        .all(|group| ends_within(groups, MOST_NESTED - 1, group.parent))
+    let mut rest = groups;
+    'groups: while let [group, after @ ..] = rest {
+        if !ends_within(groups, MOST_NESTED - 1, group.parent) {
+            return false;
+        }
+        rest = after;
+    }
+    true
 }
 
 // Whether a chain of conversations, each the parent of the one before, has at most so many.

@@ -11,7 +11,14 @@ use rb_code::{Code, Instr};
 pub(crate) fn all_name_entries(code: &Code) -> bool
     ensures { IsTrue result ↔ All (NamesThere (plain code.now)) code.now.instrs.items }
 {
-    code.instrs.iter().all(|instr| names_entries(code, *instr))
+    let mut rest = code.instrs.as_slice();
+    'instrs: while let [instr, after @ ..] = rest {
+        if !names_entries(code, *instr) {
+            return false;
+        }
+        rest = after;
+    }
+    true
 }
 
 fn names_entries(code: &Code, instr: Instr) -> bool

@@ -16,16 +16,28 @@ use rb_lex::is_reserved;
 pub(crate) fn are_namings(edition: Edition, names: &[Text]) -> bool
     ensures { IsTrue result ↔ AreNamings edition names.now }
 {
-    names.iter().all(|name| is_naming(edition, name.as_bytes()))
+    let mut rest = names;
+    'names: while let [name, after @ ..] = rest {
+        if !is_naming(edition, name.as_bytes()) {
+            return false;
+        }
+        rest = after;
+    }
+    true
 }
 
 /// Whether all procedures of all processes have names of an edition.
 pub(crate) fn name_procedures(edition: Edition, processes: &[ProcessCode]) -> bool
     ensures { IsTrue result ↔ All (λ process. NamesProcedures edition process) processes.now }
 {
-    processes
-        .iter()
-        .all(|process| names_procedures(edition, process))
+    let mut rest = processes;
+    'processes: while let [process, after @ ..] = rest {
+        if !names_procedures(edition, process) {
+            return false;
+        }
+        rest = after;
+    }
+    true
 }
 
 fn names_procedures(edition: Edition, process: &ProcessCode) -> bool
@@ -37,18 +49,28 @@ fn names_procedures(edition: Edition, process: &ProcessCode) -> bool
 fn are_procedures(edition: Edition, procedures: &[ProcedureCode]) -> bool
     ensures { IsTrue result ↔ All (λ one. IsNaming edition one.name) procedures.now }
 {
-    procedures
-        .iter()
-        .all(|procedure| is_naming(edition, procedure.name.as_bytes()))
+    let mut rest = procedures;
+    'procedures: while let [procedure, after @ ..] = rest {
+        if !is_naming(edition, procedure.name.as_bytes()) {
+            return false;
+        }
+        rest = after;
+    }
+    true
 }
 
 /// Whether what is printed of each process has names of an edition, and no array with too many elements.
 pub(crate) fn name_processes(edition: Edition, processes: &[ProcessNames]) -> bool
     ensures { IsTrue result ↔ All (λ process. NamesProcess edition (process_naming process)) processes.now }
 {
-    processes
-        .iter()
-        .all(|process| names_process(edition, process))
+    let mut rest = processes;
+    'processes: while let [process, after @ ..] = rest {
+        if !names_process(edition, process) {
+            return false;
+        }
+        rest = after;
+    }
+    true
 }
 
 fn names_process(edition: Edition, process: &ProcessNames) -> bool
@@ -60,9 +82,14 @@ fn names_process(edition: Edition, process: &ProcessNames) -> bool
 fn name_variables(edition: Edition, variables: &[Variable]) -> bool
     ensures { IsTrue result ↔ All (λ variable. NamesVariable edition (variable_naming variable)) variables.now }
 {
-    variables
-        .iter()
-        .all(|variable| names_variable(edition, variable))
+    let mut rest = variables;
+    'variables: while let [variable, after @ ..] = rest {
+        if !names_variable(edition, variable) {
+            return false;
+        }
+        rest = after;
+    }
+    true
 }
 
 fn names_variable(edition: Edition, variable: &Variable) -> bool

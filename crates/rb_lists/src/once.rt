@@ -60,7 +60,14 @@ fn see_each_once(mark: Mark, instrs: &[Instr], seen: &mut [bool]) -> bool
 fn all_seen(seen: &[bool]) -> bool
     ensures { result ≡ list_all (λ one. one) seen.now }
 {
-    seen.iter().all(|one| *one)
+    let mut rest = seen;
+    'seen: while let [one, after @ ..] = rest {
+        if !*one {
+            return false;
+        }
+        rest = after;
+    }
+    true
 }
 
 fn block_marked(mark: Mark, instr: Instr) -> Option<u32>

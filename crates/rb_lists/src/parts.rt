@@ -14,7 +14,14 @@ use rb_code::{Code, ProcedureCode, ProcessCode};
 pub(crate) fn are_parts(code: &Code) -> bool
     ensures { IsTrue result ↔ All (λ process. IsPart (plain code.now) (plain_part process)) code.now.processes.items }
 {
-    code.processes.iter().all(|process| is_part(code, process))
+    let mut rest = code.processes.as_slice();
+    'processes: while let [process, after @ ..] = rest {
+        if !is_part(code, process) {
+            return false;
+        }
+        rest = after;
+    }
+    true
 }
 
 fn is_part(code: &Code, process: &ProcessCode) -> bool
@@ -29,9 +36,14 @@ fn is_part(code: &Code, process: &ProcessCode) -> bool
 fn begin_there(instrs: usize, procedures: &[ProcedureCode]) -> bool
     ensures { IsTrue result ↔ All (λ one. one.start < instrs) procedures.now }
 {
-    procedures
-        .iter()
-        .all(|procedure| (procedure.start as usize) < instrs)
+    let mut rest = procedures;
+    'procedures: while let [procedure, after @ ..] = rest {
+        if procedure.start as usize >= instrs {
+            return false;
+        }
+        rest = after;
+    }
+    true
 }
 
 /// Whether what is printed of each process lies within its words; false where these are not as many.
@@ -56,9 +68,14 @@ pub(crate) fn variables_lie(names: &[ProcessNames], processes: &[ProcessCode]) -
 fn lie_within(words: u32, variables: &[Variable]) -> bool
     ensures { IsTrue result ↔ AllByRecursion (LiesWithin words) variables.now }
 {
-    variables
-        .iter()
-        .all(|variable| lies_within(words, variable))
+    let mut rest = variables;
+    'variables: while let [variable, after @ ..] = rest {
+        if !lies_within(words, variable) {
+            return false;
+        }
+        rest = after;
+    }
+    true
 }
 
 fn lies_within(words: u32, variable: &Variable) -> bool

@@ -11,7 +11,14 @@ use rb_base::{LONGEST_TEXT, Text};
 pub(crate) fn are_quotable(texts: &[Text]) -> bool
     ensures { IsTrue result ↔ AreQuotable texts.now }
 {
-    texts.iter().all(|text| is_text(text.as_bytes()))
+    let mut rest = texts;
+    'texts: while let [text, after @ ..] = rest {
+        if !is_text(text.as_bytes()) {
+            return false;
+        }
+        rest = after;
+    }
+    true
 }
 
 fn is_text(text: &[u8]) -> bool
@@ -23,7 +30,14 @@ fn is_text(text: &[u8]) -> bool
 fn all_quotable(text: &[u8]) -> bool
     ensures { result ≡ list_all is_quotable text.now }
 {
-    text.iter().all(|byte| is_quotable(*byte))
+    let mut rest = text;
+    'bytes: while let [byte, after @ ..] = rest {
+        if !is_quotable(*byte) {
+            return false;
+        }
+        rest = after;
+    }
+    true
 }
 
 fn is_quotable(byte: u8) -> bool

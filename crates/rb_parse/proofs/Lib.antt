@@ -1,5 +1,7 @@
 -- How deep the functions call one another before a token is taken.
 pub mod Measures
+-- How many tokens are left.
+pub mod Shorter
 -- What a function hands on that ends in a call.
 pub mod Handed
 pub mod Closing

@@ -18,13 +18,13 @@ use std::alloc::Global;
 pub fn names(alloc: Global, checked: &Checked<'_>) -> Result<Names, Memory>
     ensures { IfOk result (λ names. naming names ≡ naming_of (tree checked.now.program)) }
 {
+    // No list is longer than numbers of 32 bits can tell.
+    count(checked.program.processes.len())?;
+    count(checked.program.channels.len())?;
+    count(checked.program.conversations.len())?;
     let processes = named_processes(alloc, &checked.program.processes)?;
     let channels = channel_names(alloc, &checked.program.channels)?;
     let conversations = conversation_names(alloc, &checked.program.conversations)?;
-    // No list is longer than numbers of 32 bits can tell.
-    count(processes.len())?;
-    count(channels.len())?;
-    count(conversations.len())?;
     Ok(Names {
         processes,
         channels,
@@ -38,7 +38,7 @@ fn named_processes(alloc: Global, processes: &[Process<'_>]) -> Result<Vec<Proce
     let mut named = Vec::with_capacity(alloc, processes.len())?;
     let mut rest = processes;
     'processes: while let [process, after @ ..] = rest {
-        named.push(named_process(alloc, process)?)?;
+        named.push_reserved(named_process(alloc, process)?);
         rest = after;
     }
     Ok(named)
@@ -59,7 +59,7 @@ fn named_variables(alloc: Global, variables: &[Var<'_>]) -> Result<Vec<Variable>
     let mut at = 0;
     let mut rest = variables;
     'variables: while let [variable, after @ ..] = rest {
-        named.push(named_variable(alloc, at, variable)?)?;
+        named.push_reserved(named_variable(alloc, at, variable)?);
         at = sum(at, size_of(variable.size)?)?;
         rest = after;
     }
@@ -102,7 +102,7 @@ fn channel_names(alloc: Global, channels: &[Channel<'_>]) -> Result<Vec<Text>, M
     let mut names = Vec::with_capacity(alloc, channels.len())?;
     let mut rest = channels;
     'channels: while let [channel, after @ ..] = rest {
-        names.push(Text::from_slice(alloc, channel.name.text)?)?;
+        names.push_reserved(Text::from_slice(alloc, channel.name.text)?);
         rest = after;
     }
     Ok(names)
@@ -117,7 +117,7 @@ fn conversation_names(
     let mut names = Vec::with_capacity(alloc, conversations.len())?;
     let mut rest = conversations;
     'conversations: while let [conversation, after @ ..] = rest {
-        names.push(Text::from_slice(alloc, conversation.name.text)?)?;
+        names.push_reserved(Text::from_slice(alloc, conversation.name.text)?);
         rest = after;
     }
     Ok(names)

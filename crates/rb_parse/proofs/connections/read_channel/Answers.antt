@@ -6,6 +6,7 @@ use Rattle.rb_grammar.proofs.Accepting.Starts.{no_channel}
 use Rattle.rb_grammar.specs.Parts.{Part}
 use Rattle.rb_syntax.specs.Plain.{channel_declaration}
 use Rattle.rb_parse.proofs.Closing.{last_closed, last_missed}
+use Rattle.rb_parse.proofs.Shorter.{and_fewer, call_fewer}
 use Rattle.rb_parse.proofs.connections.read_channel.Goals as goal
 
 pub returns-in_err-name-clause-err : goal.returns-in_err-name-clause-err
@@ -58,3 +59,29 @@ returns-clause-ok c =
     (by_named (opens Part.Channel c.args.cursor.now.point _ refl (no_channel _) refl) c.in_ok-name.ensures.ok)
     c.in_ok-sender.ensures.ok) c.in_ok-receiver.ensures.ok) c.in_ok-take.ensures.ok) c.in_ok-size.ensures.ok)
     taken))) c.closed.ensures.same c.closed.ensures.taken
+
+pub returns-in_err-name-clause-ending : goal.returns-in_err-name-clause-ending
+returns-in_err-name-clause-ending c = c.in_err-name.ensures.ending
+
+pub returns-in_err-sender-clause-ending : goal.returns-in_err-sender-clause-ending
+returns-in_err-sender-clause-ending c = c.in_err-sender.ensures.ending ∙ c.in_ok-name.ensures.ending
+
+pub returns-in_err-receiver-clause-ending : goal.returns-in_err-receiver-clause-ending
+returns-in_err-receiver-clause-ending c =
+    c.in_err-receiver.ensures.ending ∙ c.in_ok-sender.ensures.ending ∙ c.in_ok-name.ensures.ending
+
+pub returns-in_err-take-clause-ending : goal.returns-in_err-take-clause-ending
+returns-in_err-take-clause-ending c =
+    c.in_err-take.ensures.ending ∙ c.in_ok-receiver.ensures.ending ∙ c.in_ok-sender.ensures.ending ∙ c.in_ok-name.ensures.ending
+
+pub returns-in_err-size-clause-ending : goal.returns-in_err-size-clause-ending
+returns-in_err-size-clause-ending c =
+    c.in_err-size.ensures.ending ∙ c.in_ok-take.ensures.ending ∙ c.in_ok-receiver.ensures.ending ∙ c.in_ok-sender.ensures.ending ∙ c.in_ok-name.ensures.ending
+
+pub returns-clause-ending : goal.returns-clause-ending
+returns-clause-ending c =
+    c.closed.ensures.ending ∙ c.in_ok-size.ensures.ending ∙ c.in_ok-take.ensures.ending ∙ c.in_ok-receiver.ensures.ending ∙ c.in_ok-sender.ensures.ending ∙ c.in_ok-name.ensures.ending
+
+pub returns-clause-shorter : goal.returns-clause-shorter
+returns-clause-shorter c =
+    call_fewer _ _ c.closed.result c.closed.ensures.shorter (and_fewer c.in_ok-size.ensures.shorter (and_fewer c.in_ok-take.ensures.shorter (and_fewer c.in_ok-receiver.ensures.shorter (and_fewer c.in_ok-sender.ensures.shorter c.in_ok-name.ensures.shorter))))

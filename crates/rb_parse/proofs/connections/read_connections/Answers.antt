@@ -5,6 +5,7 @@ use Rattle.rb_grammar.proofs.Reaching.{begins_here, by_part, exit_memory, exit_w
 use Rattle.rb_grammar.proofs.Accepting.Starts.{no_connections, some_channel, some_conversation}
 use Rattle.rb_grammar.specs.Parts.{Part}
 use Rattle.rb_grammar.specs.Table.{channels_after, conversations_after}
+use Rattle.rb_parse.proofs.Shorter.{fewer_still}
 use Rattle.rb_parse.proofs.connections.read_connections.Goals as goal
 
 pub connections-init : goal.connections-init
@@ -67,3 +68,16 @@ connections-preserved-in-Continue-branch-2 c =
       ending = c.in_ok-channel.ensures.ending ∙ c.connections.invariant.ending;
       shorter = omega (arith, c.in_ok-channel.ensures.shorter, c.connections.invariant.shorter);
     }
+
+pub returns-in_err-channel-clause-ending : goal.returns-in_err-channel-clause-ending
+returns-in_err-channel-clause-ending c = c.in_err-channel.ensures.ending ∙ c.connections.invariant.ending
+
+pub returns-in_err-append-clause-ending : goal.returns-in_err-append-clause-ending
+returns-in_err-append-clause-ending c = c.in_ok-channel.ensures.ending ∙ c.connections.invariant.ending
+
+pub returns-in_err-conversation-clause-ending : goal.returns-in_err-conversation-clause-ending
+returns-in_err-conversation-clause-ending c =
+    c.in_err-conversation.ensures.ending ∙ c.connections.invariant.ending
+
+pub returns-in_err-append-2-clause-ending : goal.returns-in_err-append-2-clause-ending
+returns-in_err-append-2-clause-ending c = c.in_ok-conversation.ensures.ending ∙ c.connections.invariant.ending

@@ -5,6 +5,7 @@ use Rattle.rb_grammar.proofs.Reaching.{by_part, by_terminal, complete, exit_miss
 use Rattle.rb_grammar.proofs.Accepting.Starts.{no_conversation}
 use Rattle.rb_grammar.specs.Parts.{Part}
 use Rattle.rb_syntax.specs.Plain.{identifier}
+use Rattle.rb_parse.proofs.Shorter.{and_fewer}
 use Rattle.rb_parse.proofs.connections.read_conversation.Goals as goal
 
 pub returns-in_err-name-clause-err : goal.returns-in_err-name-clause-err
@@ -37,3 +38,25 @@ returns-clause-ok c =
     same_value (ap (conversation_of (map identifier c.in_ok-members.members.items)) (sym (c.in_ok-name.ensures.ok).named.is))
     (complete (by_two (by_part (by_terminal (by_named (opens Part.Conversation c.args.cursor.now.point _ refl (no_conversation _)
     refl) c.in_ok-name.ensures.ok) c.in_ok-take.ensures.ok) c.in_ok-members.ensures.ok) c.in_ok-take_two.ensures.ok))
+
+pub returns-in_err-name-clause-ending : goal.returns-in_err-name-clause-ending
+returns-in_err-name-clause-ending c = c.in_err-name.ensures.ending
+
+pub returns-in_err-take-clause-ending : goal.returns-in_err-take-clause-ending
+returns-in_err-take-clause-ending c = c.in_err-take.ensures.ending ∙ c.in_ok-name.ensures.ending
+
+pub returns-in_err-members-clause-ending : goal.returns-in_err-members-clause-ending
+returns-in_err-members-clause-ending c =
+    c.in_err-members.ensures.ending ∙ c.in_ok-take.ensures.ending ∙ c.in_ok-name.ensures.ending
+
+pub returns-in_err-take_two-clause-ending : goal.returns-in_err-take_two-clause-ending
+returns-in_err-take_two-clause-ending c =
+    c.in_err-take_two.ensures.ending ∙ c.in_ok-members.ensures.ending ∙ c.in_ok-take.ensures.ending ∙ c.in_ok-name.ensures.ending
+
+pub returns-clause-ending : goal.returns-clause-ending
+returns-clause-ending c =
+    c.in_ok-take_two.ensures.ending ∙ c.in_ok-members.ensures.ending ∙ c.in_ok-take.ensures.ending ∙ c.in_ok-name.ensures.ending
+
+pub returns-clause-shorter : goal.returns-clause-shorter
+returns-clause-shorter c =
+    and_fewer c.in_ok-take_two.ensures.shorter (and_fewer c.in_ok-members.ensures.shorter (and_fewer c.in_ok-take.ensures.shorter c.in_ok-name.ensures.shorter))

@@ -4,6 +4,7 @@ use Rattle.rb_grammar.specs.StatementTable.{declarations_after}
 use Rattle.rb_grammar.proofs.Accepting.Starts.{some_declaration, no_declarations}
 use Rattle.rb_grammar.proofs.Pushing.{vars_init, vars_step, vars_end}
 use Rattle.rb_grammar.proofs.Reaching.{begins_here, by_part, exit_memory, exit_within, within}
+use Rattle.rb_parse.proofs.Shorter.{fewer_still}
 use Rattle.rb_parse.proofs.declarations.read_declarations.Goals as goal
 
 pub vars-init : goal.vars-init
@@ -34,3 +35,12 @@ vars-preserved c = record {
 
 pub returns-clause-ok : goal.returns-clause-ok
 returns-clause-ok c = vars_end c.vars.vars.items c.vars.invariant.reached (no_declarations _ (sym c.vars-test.ensures))
+
+pub returns-in_err-var-clause-ending : goal.returns-in_err-var-clause-ending
+returns-in_err-var-clause-ending c = c.in_err-var.ensures.ending ∙ c.vars.invariant.ending
+
+pub returns-in_err-append-clause-ending : goal.returns-in_err-append-clause-ending
+returns-in_err-append-clause-ending c = c.in_ok-var.ensures.ending ∙ c.vars.invariant.ending
+
+pub vars-smaller : goal.vars-smaller
+vars-smaller c = c.in_ok-var.ensures.shorter

@@ -4,6 +4,7 @@ use Rattle.rb_grammar.proofs.Reaching.{by_terminal, exhausts_within, exit_memory
 use Rattle.rb_grammar.proofs.Accepting.Starts.{no_more_names}
 use Rattle.rb_grammar.proofs.Takes.{name_taken}
 use Rattle.rb_parse.proofs.Lists.{name_first, name_read}
+use Rattle.rb_parse.proofs.Shorter.{and_fewer, fewer_still}
 use Rattle.rb_parse.proofs.declarations.read_names.Goals as goal
 
 pub names-init : goal.names-init
@@ -46,3 +47,22 @@ names-preserved c = record {
   ending = c.in_ok-take.ensures.ending ∙ c.in_ok-name.ensures.ending ∙ c.names.invariant.ending;
   shorter = omega (arith, c.in_ok-take.ensures.shorter, c.in_ok-name.ensures.shorter, c.names.invariant.shorter);
 }
+
+pub returns-in_err-name-clause-ending : goal.returns-in_err-name-clause-ending
+returns-in_err-name-clause-ending c = c.in_err-name.ensures.ending ∙ c.names.invariant.ending
+
+pub returns-in_err-append-clause-ending : goal.returns-in_err-append-clause-ending
+returns-in_err-append-clause-ending c = c.in_ok-name.ensures.ending ∙ c.names.invariant.ending
+
+pub returns-then-not-stands_at-clause-ending : goal.returns-then-not-stands_at-clause-ending
+returns-then-not-stands_at-clause-ending c = c.in_ok-name.ensures.ending ∙ c.names.invariant.ending
+
+pub returns-then-not-stands_at-clause-shorter : goal.returns-then-not-stands_at-clause-shorter
+returns-then-not-stands_at-clause-shorter c = fewer_still c.in_ok-name.ensures.shorter c.names.invariant.shorter
+
+pub returns-in_err-take-clause-ending : goal.returns-in_err-take-clause-ending
+returns-in_err-take-clause-ending c =
+    c.in_err-take.ensures.ending ∙ c.in_ok-name.ensures.ending ∙ c.names.invariant.ending
+
+pub names-smaller : goal.names-smaller
+names-smaller c = and_fewer c.in_ok-take.ensures.shorter c.in_ok-name.ensures.shorter

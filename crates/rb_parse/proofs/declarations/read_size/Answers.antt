@@ -2,6 +2,7 @@ use Rattle.std.proofs.Common.{None, refl, sym, ◌∙◌}
 use Rattle.rb_grammar.proofs.Reaching.{by_part, by_terminal, complete, exit_sure, exit_within, last_start, passes, starts}
 use Rattle.rb_grammar.proofs.Accepting.Starts.{no_size}
 use Rattle.rb_parse.proofs.Closing.{last_closed, last_missed}
+use Rattle.rb_parse.proofs.Shorter.{and_fewer, call_at_most}
 use Rattle.rb_parse.proofs.declarations.read_size.Goals as goal
 
 pub returns-in_err-take-clause-err : goal.returns-in_err-take-clause-err
@@ -27,3 +28,17 @@ returns-in_ok-size-clause-ok c =
 pub returns-else-stands_at-clause-ok : goal.returns-else-stands_at-clause-ok
 returns-else-stands_at-clause-ok c =
     passes None _ (no_size _ (sym c.if-stands_at.ensures)) refl
+
+pub returns-in_err-take-clause-ending : goal.returns-in_err-take-clause-ending
+returns-in_err-take-clause-ending c = c.in_err-take.ensures.ending
+
+pub returns-in_err-size-clause-ending : goal.returns-in_err-size-clause-ending
+returns-in_err-size-clause-ending c = c.in_err-size.ensures.ending ∙ c.in_ok-take.ensures.ending
+
+pub returns-in_ok-size-clause-ending : goal.returns-in_ok-size-clause-ending
+returns-in_ok-size-clause-ending c =
+    c.closed.ensures.ending ∙ c.in_ok-size.ensures.ending ∙ c.in_ok-take.ensures.ending
+
+pub returns-in_ok-size-clause-shorter : goal.returns-in_ok-size-clause-shorter
+returns-in_ok-size-clause-shorter c =
+    call_at_most _ _ c.closed.result c.closed.ensures.shorter (and_fewer c.in_ok-size.ensures.shorter c.in_ok-take.ensures.shorter)

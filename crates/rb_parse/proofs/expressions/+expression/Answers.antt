@@ -18,6 +18,7 @@ use Rattle.rb_syntax.specs.Tree.{Element, Minus, Negation, NoLink, Quantificatio
 use Rattle.rb_grammar.specs.declared.level.Level.TheVariants as levels
 use Rattle.rb_parse.proofs.Closing.{last_closed, last_held, last_missed}
 use Rattle.rb_parse.proofs.Handed.{last_made, last_read, last_stopped, last_unmade}
+use Rattle.rb_parse.proofs.Shorter.{and_fewer, at_most, call_fewer, call_takes_none, fewer_still, no_more}
 use Rattle.rb_parse.proofs.expressions.+expression.Goals as goal
 
 pub read_expression-returns-in-None-clause-err : goal.read_expression-returns-in-None-clause-err
@@ -424,3 +425,207 @@ read_subscript-returns-in_ok-held-clause-ok t c =
 pub read_subscript-returns-else-stands_at-clause-ok : goal.read_subscript-returns-else-stands_at-clause-ok
 read_subscript-returns-else-stands_at-clause-ok t c =
     passes Scalar _ (no_subscript _ (sym c.if-stands_at.ensures)) refl
+
+pub read_quantified-returns-in_err-token-clause-ending : goal.read_quantified-returns-in_err-token-clause-ending
+read_quantified-returns-in_err-token-clause-ending t c = c.in_err-token.ensures.ending
+
+pub read_quantified-returns-in_err-name-clause-ending : goal.read_quantified-returns-in_err-name-clause-ending
+read_quantified-returns-in_err-name-clause-ending t c = c.in_err-name.ensures.ending ∙ c.in_ok-token.ensures.ending
+
+pub read_quantified-returns-in_err-take-clause-ending : goal.read_quantified-returns-in_err-take-clause-ending
+read_quantified-returns-in_err-take-clause-ending t c =
+    c.in_err-take.ensures.ending ∙ c.in_ok-name.ensures.ending ∙ c.in_ok-token.ensures.ending
+
+pub read_quantified-returns-in_err-least-clause-ending : goal.read_quantified-returns-in_err-least-clause-ending
+read_quantified-returns-in_err-least-clause-ending t c =
+    c.in_err-least.ensures.ending ∙ c.in_ok-take.ensures.ending ∙ c.in_ok-name.ensures.ending ∙ c.in_ok-token.ensures.ending
+
+pub read_quantified-returns-in_err-low-clause-ending : goal.read_quantified-returns-in_err-low-clause-ending
+read_quantified-returns-in_err-low-clause-ending t c =
+    c.in_err-low.ensures.ending ∙ c.in_ok-least.ensures.ending ∙ c.in_ok-take.ensures.ending ∙ c.in_ok-name.ensures.ending ∙ c.in_ok-token.ensures.ending
+
+pub read_quantified-returns-in_err-most-clause-ending : goal.read_quantified-returns-in_err-most-clause-ending
+read_quantified-returns-in_err-most-clause-ending t c =
+    c.in_err-most.ensures.ending ∙ c.in_ok-low.ensures.ending ∙ c.in_ok-least.ensures.ending ∙ c.in_ok-take.ensures.ending ∙ c.in_ok-name.ensures.ending ∙ c.in_ok-token.ensures.ending
+
+pub read_quantified-returns-in_err-high-clause-ending : goal.read_quantified-returns-in_err-high-clause-ending
+read_quantified-returns-in_err-high-clause-ending t c =
+    c.in_err-high.ensures.ending ∙ c.in_ok-most.ensures.ending ∙ c.in_ok-low.ensures.ending ∙ c.in_ok-least.ensures.ending ∙ c.in_ok-take.ensures.ending ∙ c.in_ok-name.ensures.ending ∙ c.in_ok-token.ensures.ending
+
+pub read_quantified-returns-in_err-body-clause-ending : goal.read_quantified-returns-in_err-body-clause-ending
+read_quantified-returns-in_err-body-clause-ending t c =
+    c.in_err-body.ensures.ending ∙ c.in_ok-high.ensures.ending ∙ c.in_ok-most.ensures.ending ∙ c.in_ok-low.ensures.ending ∙ c.in_ok-least.ensures.ending ∙ c.in_ok-take.ensures.ending ∙ c.in_ok-name.ensures.ending ∙ c.in_ok-token.ensures.ending
+
+pub read_quantified-returns-clause-ending : goal.read_quantified-returns-clause-ending
+read_quantified-returns-clause-ending t c =
+    c.in_ok-body.ensures.ending ∙ c.in_ok-high.ensures.ending ∙ c.in_ok-most.ensures.ending ∙ c.in_ok-low.ensures.ending ∙ c.in_ok-least.ensures.ending ∙ c.in_ok-take.ensures.ending ∙ c.in_ok-name.ensures.ending ∙ c.in_ok-token.ensures.ending
+
+pub read_quantified-returns-clause-shorter : goal.read_quantified-returns-clause-shorter
+read_quantified-returns-clause-shorter t c =
+    and_fewer c.in_ok-body.ensures.shorter (and_fewer c.in_ok-high.ensures.shorter (and_fewer c.in_ok-most.ensures.shorter (and_fewer c.in_ok-low.ensures.shorter (and_fewer c.in_ok-least.ensures.shorter (and_fewer c.in_ok-take.ensures.shorter (and_fewer c.in_ok-name.ensures.shorter c.in_ok-token.ensures.shorter))))))
+
+pub read_boxed-returns-in_err-value-clause-ending : goal.read_boxed-returns-in_err-value-clause-ending
+read_boxed-returns-in_err-value-clause-ending t c = c.in_err-value.ensures.ending
+
+pub read_boxed-returns-clause-ending : goal.read_boxed-returns-clause-ending
+read_boxed-returns-clause-ending t c = c.in_ok-value.ensures.ending
+
+pub read_boxed-returns-clause-shorter : goal.read_boxed-returns-clause-shorter
+read_boxed-returns-clause-shorter t c = call_takes_none c.boxed.result c.in_ok-value.ensures.shorter
+
+pub read_chain-returns-in_err-first-clause-ending : goal.read_chain-returns-in_err-first-clause-ending
+read_chain-returns-in_err-first-clause-ending t c = c.in_err-first.ensures.ending
+
+pub read_chain-returns-in_err-links-clause-ending : goal.read_chain-returns-in_err-links-clause-ending
+read_chain-returns-in_err-links-clause-ending t c = c.in_err-links.ensures.ending ∙ c.in_ok-first.ensures.ending
+
+pub read_chain-returns-clause-ending : goal.read_chain-returns-clause-ending
+read_chain-returns-clause-ending t c = c.in_ok-links.ensures.ending ∙ c.in_ok-first.ensures.ending
+
+pub read_chain-returns-clause-shorter : goal.read_chain-returns-clause-shorter
+read_chain-returns-clause-shorter t c =
+    call_takes_none c.chain.result (no_more c.in_ok-links.ensures.shorter c.in_ok-first.ensures.shorter)
+
+pub read_links-returns-in_err-take-clause-ending : goal.read_links-returns-in_err-take-clause-ending
+read_links-returns-in_err-take-clause-ending t c = c.in_err-take.ensures.ending ∙ c.links.invariant.ending
+
+pub read_links-returns-in_err-right-clause-ending : goal.read_links-returns-in_err-right-clause-ending
+read_links-returns-in_err-right-clause-ending t c =
+    c.in_err-right.ensures.ending ∙ c.in_ok-take.ensures.ending ∙ c.links.invariant.ending
+
+pub read_links-returns-in_err-append-clause-ending : goal.read_links-returns-in_err-append-clause-ending
+read_links-returns-in_err-append-clause-ending t c =
+    c.in_ok-right.ensures.ending ∙ c.in_ok-take.ensures.ending ∙ c.links.invariant.ending
+
+pub read_links-links-smaller : goal.read_links-links-smaller
+read_links-links-smaller t c = and_fewer c.in_ok-right.ensures.shorter c.in_ok-take.ensures.shorter
+
+pub read_negation-returns-in_err-take-clause-ending : goal.read_negation-returns-in_err-take-clause-ending
+read_negation-returns-in_err-take-clause-ending t c = c.in_err-take.ensures.ending
+
+pub read_negation-returns-in_err-operand-clause-ending : goal.read_negation-returns-in_err-operand-clause-ending
+read_negation-returns-in_err-operand-clause-ending t c =
+    c.in_err-operand.ensures.ending ∙ c.in_ok-take.ensures.ending
+
+pub read_negation-returns-in_err-held-clause-ending : goal.read_negation-returns-in_err-held-clause-ending
+read_negation-returns-in_err-held-clause-ending t c = c.in_ok-operand.ensures.ending ∙ c.in_ok-take.ensures.ending
+
+pub read_negation-returns-in_ok-held-clause-ending : goal.read_negation-returns-in_ok-held-clause-ending
+read_negation-returns-in_ok-held-clause-ending t c = c.in_ok-operand.ensures.ending ∙ c.in_ok-take.ensures.ending
+
+pub read_negation-returns-in_ok-held-clause-shorter : goal.read_negation-returns-in_ok-held-clause-shorter
+read_negation-returns-in_ok-held-clause-shorter t c =
+    and_fewer c.in_ok-operand.ensures.shorter c.in_ok-take.ensures.shorter
+
+pub read_comparison-returns-in_err-left-clause-ending : goal.read_comparison-returns-in_err-left-clause-ending
+read_comparison-returns-in_err-left-clause-ending t c = c.in_err-left.ensures.ending
+
+pub read_comparison-returns-in_err-links-clause-ending : goal.read_comparison-returns-in_err-links-clause-ending
+read_comparison-returns-in_err-links-clause-ending t c = c.in_err-links.ensures.ending ∙ c.in_ok-left.ensures.ending
+
+pub read_comparison-returns-clause-ending : goal.read_comparison-returns-clause-ending
+read_comparison-returns-clause-ending t c = c.in_ok-links.ensures.ending ∙ c.in_ok-left.ensures.ending
+
+pub read_comparison-returns-clause-shorter : goal.read_comparison-returns-clause-shorter
+read_comparison-returns-clause-shorter t c =
+    call_takes_none c.chain.result (no_more c.in_ok-links.ensures.shorter c.in_ok-left.ensures.shorter)
+
+pub read_right-returns-in_err-take-clause-ending : goal.read_right-returns-in_err-take-clause-ending
+read_right-returns-in_err-take-clause-ending t c = c.in_err-take.ensures.ending
+
+pub read_right-returns-in_err-right-clause-ending : goal.read_right-returns-in_err-right-clause-ending
+read_right-returns-in_err-right-clause-ending t c = c.in_err-right.ensures.ending ∙ c.in_ok-take.ensures.ending
+
+pub read_right-returns-in_err-append-clause-ending : goal.read_right-returns-in_err-append-clause-ending
+read_right-returns-in_err-append-clause-ending t c = c.in_ok-right.ensures.ending ∙ c.in_ok-take.ensures.ending
+
+pub read_right-returns-clause-ending : goal.read_right-returns-clause-ending
+read_right-returns-clause-ending t c = c.in_ok-right.ensures.ending ∙ c.in_ok-take.ensures.ending
+
+pub read_right-returns-clause-shorter : goal.read_right-returns-clause-shorter
+read_right-returns-clause-shorter t c = and_fewer c.in_ok-right.ensures.shorter c.in_ok-take.ensures.shorter
+
+pub read_factor-returns-in_err-take-clause-ending : goal.read_factor-returns-in_err-take-clause-ending
+read_factor-returns-in_err-take-clause-ending t c = c.in_err-take.ensures.ending
+
+pub read_factor-returns-in_err-operand-clause-ending : goal.read_factor-returns-in_err-operand-clause-ending
+read_factor-returns-in_err-operand-clause-ending t c = c.in_err-operand.ensures.ending ∙ c.in_ok-take.ensures.ending
+
+pub read_factor-returns-in_err-held-clause-ending : goal.read_factor-returns-in_err-held-clause-ending
+read_factor-returns-in_err-held-clause-ending t c = c.in_ok-operand.ensures.ending ∙ c.in_ok-take.ensures.ending
+
+pub read_factor-returns-in_ok-held-clause-ending : goal.read_factor-returns-in_ok-held-clause-ending
+read_factor-returns-in_ok-held-clause-ending t c = c.in_ok-operand.ensures.ending ∙ c.in_ok-take.ensures.ending
+
+pub read_factor-returns-in_ok-held-clause-shorter : goal.read_factor-returns-in_ok-held-clause-shorter
+read_factor-returns-in_ok-held-clause-shorter t c =
+    and_fewer c.in_ok-operand.ensures.shorter c.in_ok-take.ensures.shorter
+
+pub read_atom-returns-in_err-target-clause-ending : goal.read_atom-returns-in_err-target-clause-ending
+read_atom-returns-in_err-target-clause-ending t c = c.in_err-target.ensures.ending
+
+pub read_atom-returns-in_ok-target-clause-ending : goal.read_atom-returns-in_ok-target-clause-ending
+read_atom-returns-in_ok-target-clause-ending t c = c.in_ok-target.ensures.ending
+
+pub read_atom-returns-in_ok-target-clause-shorter : goal.read_atom-returns-in_ok-target-clause-shorter
+read_atom-returns-in_ok-target-clause-shorter t c = c.in_ok-target.ensures.shorter
+
+pub read_prior-returns-in_err-token-clause-ending : goal.read_prior-returns-in_err-token-clause-ending
+read_prior-returns-in_err-token-clause-ending t c = c.in_err-token.ensures.ending
+
+pub read_prior-returns-in_err-target-clause-ending : goal.read_prior-returns-in_err-target-clause-ending
+read_prior-returns-in_err-target-clause-ending t c = c.in_err-target.ensures.ending ∙ c.in_ok-token.ensures.ending
+
+pub read_prior-returns-clause-ending : goal.read_prior-returns-clause-ending
+read_prior-returns-clause-ending t c = c.in_ok-target.ensures.ending ∙ c.in_ok-token.ensures.ending
+
+pub read_prior-returns-clause-shorter : goal.read_prior-returns-clause-shorter
+read_prior-returns-clause-shorter t c = and_fewer c.in_ok-target.ensures.shorter c.in_ok-token.ensures.shorter
+
+pub read_brackets-returns-in_err-take-clause-ending : goal.read_brackets-returns-in_err-take-clause-ending
+read_brackets-returns-in_err-take-clause-ending t c = c.in_err-take.ensures.ending
+
+pub read_brackets-returns-in_err-value-clause-ending : goal.read_brackets-returns-in_err-value-clause-ending
+read_brackets-returns-in_err-value-clause-ending t c = c.in_err-value.ensures.ending ∙ c.in_ok-take.ensures.ending
+
+pub read_brackets-returns-clause-ending : goal.read_brackets-returns-clause-ending
+read_brackets-returns-clause-ending t c =
+    c.closed.ensures.ending ∙ c.in_ok-value.ensures.ending ∙ c.in_ok-take.ensures.ending
+
+pub read_brackets-returns-clause-shorter : goal.read_brackets-returns-clause-shorter
+read_brackets-returns-clause-shorter t c =
+    call_fewer _ _ c.closed.result c.closed.ensures.shorter (and_fewer c.in_ok-value.ensures.shorter c.in_ok-take.ensures.shorter)
+
+pub read_place-returns-in_err-name-clause-ending : goal.read_place-returns-in_err-name-clause-ending
+read_place-returns-in_err-name-clause-ending t c = c.in_err-name.ensures.ending
+
+pub read_place-returns-in_err-index-clause-ending : goal.read_place-returns-in_err-index-clause-ending
+read_place-returns-in_err-index-clause-ending t c = c.in_err-index.ensures.ending ∙ c.in_ok-name.ensures.ending
+
+pub read_place-returns-clause-ending : goal.read_place-returns-clause-ending
+read_place-returns-clause-ending t c = c.in_ok-index.ensures.ending ∙ c.in_ok-name.ensures.ending
+
+pub read_place-returns-clause-shorter : goal.read_place-returns-clause-shorter
+read_place-returns-clause-shorter t c = no_more c.in_ok-index.ensures.shorter c.in_ok-name.ensures.shorter
+
+pub read_subscript-returns-in_err-take-clause-ending : goal.read_subscript-returns-in_err-take-clause-ending
+read_subscript-returns-in_err-take-clause-ending t c = c.in_err-take.ensures.ending
+
+pub read_subscript-returns-in_err-value-clause-ending : goal.read_subscript-returns-in_err-value-clause-ending
+read_subscript-returns-in_err-value-clause-ending t c = c.in_err-value.ensures.ending ∙ c.in_ok-take.ensures.ending
+
+pub read_subscript-returns-in_err-index-clause-ending : goal.read_subscript-returns-in_err-index-clause-ending
+read_subscript-returns-in_err-index-clause-ending t c =
+    c.in_err-index.ensures.ending ∙ c.in_ok-value.ensures.ending ∙ c.in_ok-take.ensures.ending
+
+pub read_subscript-returns-in_err-held-clause-ending : goal.read_subscript-returns-in_err-held-clause-ending
+read_subscript-returns-in_err-held-clause-ending t c =
+    c.in_ok-index.ensures.ending ∙ c.in_ok-value.ensures.ending ∙ c.in_ok-take.ensures.ending
+
+pub read_subscript-returns-in_ok-held-clause-ending : goal.read_subscript-returns-in_ok-held-clause-ending
+read_subscript-returns-in_ok-held-clause-ending t c =
+    c.in_ok-index.ensures.ending ∙ c.in_ok-value.ensures.ending ∙ c.in_ok-take.ensures.ending
+
+pub read_subscript-returns-in_ok-held-clause-shorter : goal.read_subscript-returns-in_ok-held-clause-shorter
+read_subscript-returns-in_ok-held-clause-shorter t c =
+    at_most (and_fewer c.in_ok-index.ensures.shorter (and_fewer c.in_ok-value.ensures.shorter c.in_ok-take.ensures.shorter))

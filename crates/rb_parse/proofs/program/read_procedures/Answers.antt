@@ -4,6 +4,7 @@ use Rattle.rb_grammar.proofs.Reaching.{begins_here, by_part, exit_memory, exit_w
 use Rattle.rb_grammar.proofs.Accepting.Starts.{no_procedures, some_procedure}
 use Rattle.rb_grammar.specs.Parts.{Part}
 use Rattle.rb_grammar.specs.Table.{procedures_after}
+use Rattle.rb_parse.proofs.Shorter.{fewer_still}
 use Rattle.rb_parse.proofs.program.read_procedures.Goals as goal
 
 pub procedures-init : goal.procedures-init
@@ -39,3 +40,12 @@ pub returns-clause-ok : goal.returns-clause-ok
 returns-clause-ok c =
     procedures_end c.args.edition c.procedures.procedures.items c.procedures.invariant.reached
     (no_procedures c.args.edition _ (sym c.procedures-test.ensures))
+
+pub returns-in_err-procedure-clause-ending : goal.returns-in_err-procedure-clause-ending
+returns-in_err-procedure-clause-ending c = c.in_err-procedure.ensures.ending ∙ c.procedures.invariant.ending
+
+pub returns-in_err-append-clause-ending : goal.returns-in_err-append-clause-ending
+returns-in_err-append-clause-ending c = c.in_ok-procedure.ensures.ending ∙ c.procedures.invariant.ending
+
+pub procedures-smaller : goal.procedures-smaller
+procedures-smaller c = c.in_ok-procedure.ensures.shorter

@@ -6,6 +6,7 @@ use Rattle.rb_grammar.proofs.Accepting.Starts.{no_process}
 use Rattle.rb_grammar.specs.Parts.{Part}
 use Rattle.rb_syntax.specs.Plain.{commands_of, declaration, procedure_declaration, process_declaration}
 use Rattle.rb_parse.proofs.Closing.{last_closed, last_missed}
+use Rattle.rb_parse.proofs.Shorter.{and_fewer, call_fewer, no_more}
 use Rattle.rb_parse.proofs.program.read_process.Goals as goal
 
 pub returns-in_err-name-clause-err : goal.returns-in_err-name-clause-err
@@ -61,3 +62,29 @@ returns-clause-ok c =
     (no_process c.args.edition _) refl) c.in_ok-name.ensures.ok) c.in_ok-take.ensures.ok) c.in_ok-vars.ensures.ok)
     c.in_ok-procedures.ensures.ok) c.in_ok-body.ensures.ok) taken)))
     c.closed.ensures.same c.closed.ensures.taken
+
+pub returns-in_err-name-clause-ending : goal.returns-in_err-name-clause-ending
+returns-in_err-name-clause-ending c = c.in_err-name.ensures.ending
+
+pub returns-in_err-take-clause-ending : goal.returns-in_err-take-clause-ending
+returns-in_err-take-clause-ending c = c.in_err-take.ensures.ending ∙ c.in_ok-name.ensures.ending
+
+pub returns-in_err-vars-clause-ending : goal.returns-in_err-vars-clause-ending
+returns-in_err-vars-clause-ending c =
+    c.in_err-vars.ensures.ending ∙ c.in_ok-take.ensures.ending ∙ c.in_ok-name.ensures.ending
+
+pub returns-in_err-procedures-clause-ending : goal.returns-in_err-procedures-clause-ending
+returns-in_err-procedures-clause-ending c =
+    c.in_err-procedures.ensures.ending ∙ c.in_ok-vars.ensures.ending ∙ c.in_ok-take.ensures.ending ∙ c.in_ok-name.ensures.ending
+
+pub returns-in_err-body-clause-ending : goal.returns-in_err-body-clause-ending
+returns-in_err-body-clause-ending c =
+    c.in_err-body.ensures.ending ∙ c.in_ok-procedures.ensures.ending ∙ c.in_ok-vars.ensures.ending ∙ c.in_ok-take.ensures.ending ∙ c.in_ok-name.ensures.ending
+
+pub returns-clause-ending : goal.returns-clause-ending
+returns-clause-ending c =
+    c.closed.ensures.ending ∙ c.in_ok-body.ensures.ending ∙ c.in_ok-procedures.ensures.ending ∙ c.in_ok-vars.ensures.ending ∙ c.in_ok-take.ensures.ending ∙ c.in_ok-name.ensures.ending
+
+pub returns-clause-shorter : goal.returns-clause-shorter
+returns-clause-shorter c =
+    call_fewer _ _ c.closed.result c.closed.ensures.shorter (no_more c.in_ok-body.ensures.shorter (no_more c.in_ok-procedures.ensures.shorter (no_more c.in_ok-vars.ensures.shorter (and_fewer c.in_ok-take.ensures.shorter c.in_ok-name.ensures.shorter))))

@@ -5,6 +5,7 @@ use Rattle.rb_grammar.proofs.Accepting.Starts.{no_more_processes, some_process}
 use Rattle.rb_grammar.specs.Parts.{Part}
 use Rattle.rb_grammar.specs.Table.{processes_after}
 use Rattle.rb_parse.proofs.Lists.{process_first, process_read}
+use Rattle.rb_parse.proofs.Shorter.{fewer_still}
 use Rattle.rb_parse.proofs.program.read_processes.Goals as goal
 
 pub processes-init : goal.processes-init
@@ -39,3 +40,19 @@ processes-preserved c = record {
   ending = c.in_ok-process.ensures.ending ∙ c.processes.invariant.ending;
   shorter = omega (arith, c.in_ok-process.ensures.shorter, c.processes.invariant.shorter);
 }
+
+pub returns-in_err-process-clause-ending : goal.returns-in_err-process-clause-ending
+returns-in_err-process-clause-ending c = c.in_err-process.ensures.ending ∙ c.processes.invariant.ending
+
+pub returns-in_err-append-clause-ending : goal.returns-in_err-append-clause-ending
+returns-in_err-append-clause-ending c = c.in_ok-process.ensures.ending ∙ c.processes.invariant.ending
+
+pub processes-smaller : goal.processes-smaller
+processes-smaller c = c.in_ok-process.ensures.shorter
+
+pub returns-then-not-stands_at-clause-ending : goal.returns-then-not-stands_at-clause-ending
+returns-then-not-stands_at-clause-ending c = c.in_ok-process.ensures.ending ∙ c.processes.invariant.ending
+
+pub returns-then-not-stands_at-clause-shorter : goal.returns-then-not-stands_at-clause-shorter
+returns-then-not-stands_at-clause-shorter c =
+    fewer_still c.in_ok-process.ensures.shorter c.processes.invariant.shorter

@@ -7,6 +7,7 @@ use Rattle.rb_grammar.specs.Parts.{Part}
 use Rattle.rb_base.specs.declared.edition.Edition.TheVariants as editions
 use Rattle.rb_syntax.specs.Plain.{tree}
 use Rattle.rb_parse.proofs.Handed.{last_read, last_stopped}
+use Rattle.rb_parse.proofs.Shorter.{and_fewer, call_fewer}
 use Rattle.rb_parse.proofs.program.read_program.Goals as goal
 
 pub returns-in_err-take-clause-err : goal.returns-in_err-take-clause-err
@@ -39,3 +40,17 @@ returns-else-stands_at-clause-ok c =
     last_read _ c.read_unmarked-else-stands_at.result tree tree (λ _. refl)
     (begins (Part.Unmarked editions.First) c.args.cursor.now.point nothing_after (program_unmarked _ (sym c.if-stands_at.ensures))
     refl refl) c.read_unmarked-else-stands_at.ensures.ok
+
+pub returns-in_err-take-clause-ending : goal.returns-in_err-take-clause-ending
+returns-in_err-take-clause-ending c = c.in_err-take.ensures.ending
+
+pub returns-in_err-take_two-clause-ending : goal.returns-in_err-take_two-clause-ending
+returns-in_err-take_two-clause-ending c = c.in_err-take_two.ensures.ending ∙ c.in_ok-take.ensures.ending
+
+pub returns-in_ok-take_two-clause-ending : goal.returns-in_ok-take_two-clause-ending
+returns-in_ok-take_two-clause-ending c =
+    c.read_unmarked.ensures.ending ∙ c.in_ok-take_two.ensures.ending ∙ c.in_ok-take.ensures.ending
+
+pub returns-in_ok-take_two-clause-shorter : goal.returns-in_ok-take_two-clause-shorter
+returns-in_ok-take_two-clause-shorter c =
+    call_fewer _ _ c.read_unmarked.result c.read_unmarked.ensures.shorter (and_fewer c.in_ok-take_two.ensures.shorter c.in_ok-take.ensures.shorter)

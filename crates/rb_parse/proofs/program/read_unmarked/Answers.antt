@@ -4,6 +4,7 @@ use Rattle.rb_grammar.proofs.Pairs.{by_named, by_two, exit_two, opens}
 use Rattle.rb_grammar.proofs.Reaching.{by_part, by_terminal, complete, exit_missed, exit_within, same_value}
 use Rattle.rb_grammar.proofs.Accepting.Starts.{no_unmarked}
 use Rattle.rb_grammar.specs.Parts.{Part}
+use Rattle.rb_parse.proofs.Shorter.{and_fewer, no_more}
 use Rattle.rb_parse.proofs.program.read_unmarked.Goals as goal
 
 pub returns-in_err-name-clause-err : goal.returns-in_err-name-clause-err
@@ -49,3 +50,29 @@ returns-clause-ok c =
     (by_part (by_part (by_terminal (by_named (opens (Part.Unmarked c.args.edition) c.args.cursor.now.point _ refl
     (no_unmarked c.args.edition _) refl) c.in_ok-name.ensures.ok) c.in_ok-take.ensures.ok) c.in_ok-connections.ensures.ok)
     c.in_ok-processes.ensures.ok) c.in_ok-take_two.ensures.ok))
+
+pub returns-in_err-name-clause-ending : goal.returns-in_err-name-clause-ending
+returns-in_err-name-clause-ending c = c.in_err-name.ensures.ending
+
+pub returns-in_err-take-clause-ending : goal.returns-in_err-take-clause-ending
+returns-in_err-take-clause-ending c = c.in_err-take.ensures.ending ∙ c.in_ok-name.ensures.ending
+
+pub returns-in_err-connections-clause-ending : goal.returns-in_err-connections-clause-ending
+returns-in_err-connections-clause-ending c =
+    c.in_err-connections.ensures.ending ∙ c.in_ok-take.ensures.ending ∙ c.in_ok-name.ensures.ending
+
+pub returns-in_err-processes-clause-ending : goal.returns-in_err-processes-clause-ending
+returns-in_err-processes-clause-ending c =
+    c.in_err-processes.ensures.ending ∙ c.in_ok-connections.ensures.ending ∙ c.in_ok-take.ensures.ending ∙ c.in_ok-name.ensures.ending
+
+pub returns-in_err-take_two-clause-ending : goal.returns-in_err-take_two-clause-ending
+returns-in_err-take_two-clause-ending c =
+    c.in_err-take_two.ensures.ending ∙ c.in_ok-processes.ensures.ending ∙ c.in_ok-connections.ensures.ending ∙ c.in_ok-take.ensures.ending ∙ c.in_ok-name.ensures.ending
+
+pub returns-clause-ending : goal.returns-clause-ending
+returns-clause-ending c =
+    c.in_ok-take_two.ensures.ending ∙ c.in_ok-processes.ensures.ending ∙ c.in_ok-connections.ensures.ending ∙ c.in_ok-take.ensures.ending ∙ c.in_ok-name.ensures.ending
+
+pub returns-clause-shorter : goal.returns-clause-shorter
+returns-clause-shorter c =
+    and_fewer c.in_ok-take_two.ensures.shorter (and_fewer c.in_ok-processes.ensures.shorter (no_more c.in_ok-connections.ensures.shorter (and_fewer c.in_ok-take.ensures.shorter c.in_ok-name.ensures.shorter)))

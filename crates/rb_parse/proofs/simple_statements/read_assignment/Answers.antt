@@ -7,6 +7,7 @@ use Rattle.rb_syntax.proofs.Bridge.{command_assign}
 use Rattle.rb_syntax.specs.Plain.{command, expression, reference}
 use Rattle.rb_syntax.specs.Tree.{Assignment}
 use Rattle.rb_parse.proofs.Closing.{last_closed, last_missed}
+use Rattle.rb_parse.proofs.Shorter.{and_fewer, call_fewer}
 use Rattle.rb_parse.proofs.simple_statements.read_assignment.Goals as goal
 
 pub returns-in_err-named-clause-err : goal.returns-in_err-named-clause-err
@@ -53,3 +54,21 @@ returns-clause-ok c =
     c.requires.no_converse c.requires.no_print c.requires.no_send c.requires.no_call c.requires.no_fail) refl refl)
     c.in_ok-named.ensures.ok) c.in_ok-place.ensures.taken.1) c.in_ok-value.ensures.ok) taken))) c.closed-2.ensures.same
     c.closed-2.ensures.taken
+
+pub returns-in_err-named-clause-ending : goal.returns-in_err-named-clause-ending
+returns-in_err-named-clause-ending c = c.in_err-named.ensures.ending
+
+pub returns-in_err-place-clause-ending : goal.returns-in_err-place-clause-ending
+returns-in_err-place-clause-ending c = c.in_err-place.ensures.ending ∙ c.in_ok-named.ensures.ending
+
+pub returns-in_err-value-clause-ending : goal.returns-in_err-value-clause-ending
+returns-in_err-value-clause-ending c =
+    c.in_err-value.ensures.ending ∙ c.in_ok-place.ensures.ending ∙ c.in_ok-named.ensures.ending
+
+pub returns-clause-ending : goal.returns-clause-ending
+returns-clause-ending c =
+    c.closed-2.ensures.ending ∙ c.in_ok-value.ensures.ending ∙ c.in_ok-place.ensures.ending ∙ c.in_ok-named.ensures.ending
+
+pub returns-clause-shorter : goal.returns-clause-shorter
+returns-clause-shorter c =
+    call_fewer _ _ c.closed-2.result c.closed-2.ensures.shorter (and_fewer c.in_ok-value.ensures.shorter (and_fewer c.in_ok-place.ensures.shorter c.in_ok-named.ensures.shorter))

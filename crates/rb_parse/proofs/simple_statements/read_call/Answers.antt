@@ -5,6 +5,7 @@ use Rattle.rb_grammar.proofs.Reaching.{by_part, by_terminal, complete, exit_miss
 use Rattle.rb_syntax.proofs.Bridge.{command_call}
 use Rattle.rb_syntax.specs.Plain.{expression}
 use Rattle.rb_syntax.specs.Tree.{Invocation}
+use Rattle.rb_parse.proofs.Shorter.{and_fewer, no_more}
 use Rattle.rb_parse.proofs.simple_statements.read_call.Goals as goal
 
 pub returns-in_err-procedure-clause-err : goal.returns-in_err-procedure-clause-err
@@ -38,3 +39,25 @@ returns-clause-ok c =
     (sym (c.in_ok-procedure.ensures.ok).named.is) ∙ sym (command_call c.in_ok-procedure.procedure c.in_ok-arguments.arguments))
     (complete (by_two (by_part (by_terminal (by_named (opens_sure (Part.Statement edition) c.args.cursor.now.point _ refl
     c.requires) c.in_ok-procedure.ensures.ok) c.in_ok-take.ensures.ok) c.in_ok-arguments.ensures.ok) c.in_ok-take_two.ensures.ok))
+
+pub returns-in_err-procedure-clause-ending : goal.returns-in_err-procedure-clause-ending
+returns-in_err-procedure-clause-ending c = c.in_err-procedure.ensures.ending
+
+pub returns-in_err-take-clause-ending : goal.returns-in_err-take-clause-ending
+returns-in_err-take-clause-ending c = c.in_err-take.ensures.ending ∙ c.in_ok-procedure.ensures.ending
+
+pub returns-in_err-arguments-clause-ending : goal.returns-in_err-arguments-clause-ending
+returns-in_err-arguments-clause-ending c =
+    c.in_err-arguments.ensures.ending ∙ c.in_ok-take.ensures.ending ∙ c.in_ok-procedure.ensures.ending
+
+pub returns-in_err-take_two-clause-ending : goal.returns-in_err-take_two-clause-ending
+returns-in_err-take_two-clause-ending c =
+    c.in_err-take_two.ensures.ending ∙ c.in_ok-arguments.ensures.ending ∙ c.in_ok-take.ensures.ending ∙ c.in_ok-procedure.ensures.ending
+
+pub returns-clause-ending : goal.returns-clause-ending
+returns-clause-ending c =
+    c.in_ok-take_two.ensures.ending ∙ c.in_ok-arguments.ensures.ending ∙ c.in_ok-take.ensures.ending ∙ c.in_ok-procedure.ensures.ending
+
+pub returns-clause-shorter : goal.returns-clause-shorter
+returns-clause-shorter c =
+    and_fewer c.in_ok-take_two.ensures.shorter (no_more c.in_ok-arguments.ensures.shorter (and_fewer c.in_ok-take.ensures.shorter c.in_ok-procedure.ensures.shorter))

@@ -3,6 +3,7 @@ use Rattle.rb_grammar.proofs.Pushing.{values_end}
 use Rattle.rb_grammar.proofs.Reaching.{by_part, exhausts_within, exit_memory, exit_sure, exit_within, last_start, starts, within}
 use Rattle.rb_grammar.proofs.Accepting.Starts.{no_more_expressions}
 use Rattle.rb_parse.proofs.Lists.{value_first, value_read}
+use Rattle.rb_parse.proofs.Shorter.{and_fewer, fewer_still}
 use Rattle.rb_parse.proofs.simple_statements.read_expressions.Goals as goal
 
 pub values-init : goal.values-init
@@ -42,3 +43,22 @@ values-preserved c = record {
   ending = c.in_ok-take.ensures.ending ∙ c.in_ok-value.ensures.ending ∙ c.values.invariant.ending;
   shorter = omega (arith, c.in_ok-take.ensures.shorter, c.in_ok-value.ensures.shorter, c.values.invariant.shorter);
 }
+
+pub returns-in_err-value-clause-ending : goal.returns-in_err-value-clause-ending
+returns-in_err-value-clause-ending c = c.in_err-value.ensures.ending ∙ c.values.invariant.ending
+
+pub returns-in_err-append-clause-ending : goal.returns-in_err-append-clause-ending
+returns-in_err-append-clause-ending c = c.in_ok-value.ensures.ending ∙ c.values.invariant.ending
+
+pub returns-then-not-stands_at-clause-ending : goal.returns-then-not-stands_at-clause-ending
+returns-then-not-stands_at-clause-ending c = c.in_ok-value.ensures.ending ∙ c.values.invariant.ending
+
+pub returns-then-not-stands_at-clause-shorter : goal.returns-then-not-stands_at-clause-shorter
+returns-then-not-stands_at-clause-shorter c = fewer_still c.in_ok-value.ensures.shorter c.values.invariant.shorter
+
+pub returns-in_err-take-clause-ending : goal.returns-in_err-take-clause-ending
+returns-in_err-take-clause-ending c =
+    c.in_err-take.ensures.ending ∙ c.in_ok-value.ensures.ending ∙ c.values.invariant.ending
+
+pub values-smaller : goal.values-smaller
+values-smaller c = and_fewer c.in_ok-take.ensures.shorter c.in_ok-value.ensures.shorter

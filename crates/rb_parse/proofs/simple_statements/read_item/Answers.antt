@@ -41,3 +41,21 @@ returns-in_ok-value-clause-ok c =
     same_value (ap (λ place. amount_at place (expression c.in_ok-value.value)) here)
     (complete (by_part (begins Part.Expression c.args.cursor.now.point amount_after (item_amount _ (sym c.if-stands_at.ensures))
     refl refl) c.in_ok-value.ensures.ok))
+
+pub returns-in_err-token-clause-ending : goal.returns-in_err-token-clause-ending
+returns-in_err-token-clause-ending c = c.in_err-token.ensures.ending
+
+pub returns-in_ok-token-clause-ending : goal.returns-in_ok-token-clause-ending
+returns-in_ok-token-clause-ending c = c.in_ok-token.ensures.ending
+
+pub returns-in_ok-token-clause-shorter : goal.returns-in_ok-token-clause-shorter
+returns-in_ok-token-clause-shorter c = c.in_ok-token.ensures.shorter
+
+pub returns-in_err-value-clause-ending : goal.returns-in_err-value-clause-ending
+returns-in_err-value-clause-ending c = c.in_err-value.ensures.ending
+
+pub returns-in_ok-value-clause-ending : goal.returns-in_ok-value-clause-ending
+returns-in_ok-value-clause-ending c = c.in_ok-value.ensures.ending
+
+pub returns-in_ok-value-clause-shorter : goal.returns-in_ok-value-clause-shorter
+returns-in_ok-value-clause-shorter c = c.in_ok-value.ensures.shorter

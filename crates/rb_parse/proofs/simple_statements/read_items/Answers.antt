@@ -3,6 +3,7 @@ use Rattle.rb_grammar.proofs.Pushing.{items_end}
 use Rattle.rb_grammar.proofs.Reaching.{by_part, exhausts_within, exit_memory, exit_sure, exit_within, last_start, starts, within}
 use Rattle.rb_grammar.proofs.Accepting.Starts.{no_more_items}
 use Rattle.rb_parse.proofs.Lists.{item_first, item_read}
+use Rattle.rb_parse.proofs.Shorter.{and_fewer, fewer_still}
 use Rattle.rb_parse.proofs.simple_statements.read_items.Goals as goal
 
 pub items-init : goal.items-init
@@ -42,3 +43,22 @@ items-preserved c = record {
   ending = c.in_ok-take.ensures.ending ∙ c.in_ok-item.ensures.ending ∙ c.items.invariant.ending;
   shorter = omega (arith, c.in_ok-take.ensures.shorter, c.in_ok-item.ensures.shorter, c.items.invariant.shorter);
 }
+
+pub returns-in_err-item-clause-ending : goal.returns-in_err-item-clause-ending
+returns-in_err-item-clause-ending c = c.in_err-item.ensures.ending ∙ c.items.invariant.ending
+
+pub returns-in_err-append-clause-ending : goal.returns-in_err-append-clause-ending
+returns-in_err-append-clause-ending c = c.in_ok-item.ensures.ending ∙ c.items.invariant.ending
+
+pub returns-then-not-stands_at-clause-ending : goal.returns-then-not-stands_at-clause-ending
+returns-then-not-stands_at-clause-ending c = c.in_ok-item.ensures.ending ∙ c.items.invariant.ending
+
+pub returns-then-not-stands_at-clause-shorter : goal.returns-then-not-stands_at-clause-shorter
+returns-then-not-stands_at-clause-shorter c = fewer_still c.in_ok-item.ensures.shorter c.items.invariant.shorter
+
+pub returns-in_err-take-clause-ending : goal.returns-in_err-take-clause-ending
+returns-in_err-take-clause-ending c =
+    c.in_err-take.ensures.ending ∙ c.in_ok-item.ensures.ending ∙ c.items.invariant.ending
+
+pub items-smaller : goal.items-smaller
+items-smaller c = and_fewer c.in_ok-take.ensures.shorter c.in_ok-item.ensures.shorter

@@ -3,6 +3,7 @@ use Rattle.rb_grammar.proofs.Reaching.{by_part, by_terminal, complete, exit_sure
 use Rattle.rb_syntax.proofs.Bridge.{command_print}
 use Rattle.rb_syntax.specs.Plain.{command}
 use Rattle.rb_parse.proofs.Closing.{last_closed, last_missed}
+use Rattle.rb_parse.proofs.Shorter.{and_fewer, call_fewer}
 use Rattle.rb_parse.proofs.simple_statements.read_print.Goals as goal
 
 pub returns-in_err-take-clause-err : goal.returns-in_err-take-clause-err
@@ -25,3 +26,16 @@ returns-clause-ok c =
     λ edition. last_closed _ c.closed.result command _ (λ token taken. same_value (sym (command_print c.in_ok-items.items))
     (complete (by_terminal (by_part (starts _ refl c.in_ok-take.ensures.ok) c.in_ok-items.ensures.ok) taken)))
     c.closed.ensures.same c.closed.ensures.taken
+
+pub returns-in_err-take-clause-ending : goal.returns-in_err-take-clause-ending
+returns-in_err-take-clause-ending c = c.in_err-take.ensures.ending
+
+pub returns-in_err-items-clause-ending : goal.returns-in_err-items-clause-ending
+returns-in_err-items-clause-ending c = c.in_err-items.ensures.ending ∙ c.in_ok-take.ensures.ending
+
+pub returns-clause-ending : goal.returns-clause-ending
+returns-clause-ending c = c.closed.ensures.ending ∙ c.in_ok-items.ensures.ending ∙ c.in_ok-take.ensures.ending
+
+pub returns-clause-shorter : goal.returns-clause-shorter
+returns-clause-shorter c =
+    call_fewer _ _ c.closed.result c.closed.ensures.shorter (and_fewer c.in_ok-items.ensures.shorter c.in_ok-take.ensures.shorter)

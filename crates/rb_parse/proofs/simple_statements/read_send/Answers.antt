@@ -6,6 +6,7 @@ use Rattle.rb_syntax.proofs.Bridge.{command_send}
 use Rattle.rb_syntax.specs.Plain.{command, expression}
 use Rattle.rb_syntax.specs.Tree.{Sending}
 use Rattle.rb_parse.proofs.Closing.{last_closed, last_missed}
+use Rattle.rb_parse.proofs.Shorter.{and_fewer, call_fewer}
 use Rattle.rb_parse.proofs.simple_statements.read_send.Goals as goal
 
 pub returns-in_err-channel-clause-err : goal.returns-in_err-channel-clause-err
@@ -33,3 +34,16 @@ returns-clause-ok c =
     (complete (by_terminal (by_part (by_named (opens_sure (Part.Statement edition) c.args.cursor.now.point _ refl c.requires)
     c.in_ok-channel.ensures.ok) c.in_ok-value.ensures.ok) taken))) c.closed.ensures.same
     c.closed.ensures.taken
+
+pub returns-in_err-channel-clause-ending : goal.returns-in_err-channel-clause-ending
+returns-in_err-channel-clause-ending c = c.in_err-channel.ensures.ending
+
+pub returns-in_err-value-clause-ending : goal.returns-in_err-value-clause-ending
+returns-in_err-value-clause-ending c = c.in_err-value.ensures.ending ∙ c.in_ok-channel.ensures.ending
+
+pub returns-clause-ending : goal.returns-clause-ending
+returns-clause-ending c = c.closed.ensures.ending ∙ c.in_ok-value.ensures.ending ∙ c.in_ok-channel.ensures.ending
+
+pub returns-clause-shorter : goal.returns-clause-shorter
+returns-clause-shorter c =
+    call_fewer _ _ c.closed.result c.closed.ensures.shorter (and_fewer c.in_ok-value.ensures.shorter c.in_ok-channel.ensures.shorter)

@@ -18,6 +18,7 @@ use Rattle.std.specs.Option.{is_some}
 use Rattle.rb_base.specs.declared.edition.Edition.TheVariants as editions
 use Rattle.rb_parse.proofs.Closing.{last_closed, last_missed}
 use Rattle.rb_parse.proofs.Lists.{alternate_first, alternate_read}
+use Rattle.rb_parse.proofs.Shorter.{and_fewer, at_most, call_fewer, fewer_still, no_more}
 use Rattle.rb_parse.proofs.statements.+statement.Goals as goal
 
 pub read_statements-statements-init : goal.read_statements-statements-init
@@ -338,3 +339,212 @@ pub read_alternate-returns-clause-ok : goal.read_alternate-returns-clause-ok
 read_alternate-returns-clause-ok t c =
     last_closed _ c.closed.result body _ (λ token taken. complete (by_terminal (by_part (starts _ refl c.in_ok-take.ensures.ok) c.in_ok-block.ensures.ok) taken)) c.closed.ensures.same
     c.closed.ensures.taken
+
+pub read_statements-returns-in_err-statement-clause-ending : goal.read_statements-returns-in_err-statement-clause-ending
+read_statements-returns-in_err-statement-clause-ending t c =
+    c.in_err-statement.ensures.ending ∙ c.statements.invariant.ending
+
+pub read_statements-returns-in_err-append-clause-ending : goal.read_statements-returns-in_err-append-clause-ending
+read_statements-returns-in_err-append-clause-ending t c =
+    c.in_ok-statement.ensures.ending ∙ c.statements.invariant.ending
+
+pub read_statements-statements-smaller : goal.read_statements-statements-smaller
+read_statements-statements-smaller t c = c.in_ok-statement.ensures.shorter
+
+pub read_block-returns-in_err-take-clause-ending : goal.read_block-returns-in_err-take-clause-ending
+read_block-returns-in_err-take-clause-ending t c = c.in_err-take.ensures.ending
+
+pub read_block-returns-in_err-vars-clause-ending : goal.read_block-returns-in_err-vars-clause-ending
+read_block-returns-in_err-vars-clause-ending t c = c.in_err-vars.ensures.ending ∙ c.in_ok-take.ensures.ending
+
+pub read_block-returns-in_err-body-clause-ending : goal.read_block-returns-in_err-body-clause-ending
+read_block-returns-in_err-body-clause-ending t c =
+    c.in_err-body.ensures.ending ∙ c.in_ok-vars.ensures.ending ∙ c.in_ok-take.ensures.ending
+
+pub read_block-returns-clause-ending : goal.read_block-returns-clause-ending
+read_block-returns-clause-ending t c =
+    c.closed.ensures.ending ∙ c.in_ok-body.ensures.ending ∙ c.in_ok-vars.ensures.ending ∙ c.in_ok-take.ensures.ending
+
+pub read_block-returns-clause-shorter : goal.read_block-returns-clause-shorter
+read_block-returns-clause-shorter t c =
+    call_fewer _ _ c.closed.result c.closed.ensures.shorter (no_more c.in_ok-body.ensures.shorter (no_more c.in_ok-vars.ensures.shorter c.in_ok-take.ensures.shorter))
+
+pub read_if-returns-in_err-take-clause-ending : goal.read_if-returns-in_err-take-clause-ending
+read_if-returns-in_err-take-clause-ending t c = c.in_err-take.ensures.ending
+
+pub read_if-returns-in_err-test-clause-ending : goal.read_if-returns-in_err-test-clause-ending
+read_if-returns-in_err-test-clause-ending t c = c.in_err-test.ensures.ending ∙ c.in_ok-take.ensures.ending
+
+pub read_if-returns-in_err-block-clause-ending : goal.read_if-returns-in_err-block-clause-ending
+read_if-returns-in_err-block-clause-ending t c =
+    c.in_err-block.ensures.ending ∙ c.in_ok-test.ensures.ending ∙ c.in_ok-take.ensures.ending
+
+pub read_if-returns-in_err-otherwise-clause-ending : goal.read_if-returns-in_err-otherwise-clause-ending
+read_if-returns-in_err-otherwise-clause-ending t c =
+    c.in_err-otherwise.ensures.ending ∙ c.in_ok-block.ensures.ending ∙ c.in_ok-test.ensures.ending ∙ c.in_ok-take.ensures.ending
+
+pub read_if-returns-clause-ending : goal.read_if-returns-clause-ending
+read_if-returns-clause-ending t c =
+    c.in_ok-otherwise.ensures.ending ∙ c.in_ok-block.ensures.ending ∙ c.in_ok-test.ensures.ending ∙ c.in_ok-take.ensures.ending
+
+pub read_if-returns-clause-shorter : goal.read_if-returns-clause-shorter
+read_if-returns-clause-shorter t c =
+    no_more c.in_ok-otherwise.ensures.shorter (and_fewer c.in_ok-block.ensures.shorter (and_fewer c.in_ok-test.ensures.shorter c.in_ok-take.ensures.shorter))
+
+pub read_else-returns-in_err-take-clause-ending : goal.read_else-returns-in_err-take-clause-ending
+read_else-returns-in_err-take-clause-ending t c = c.in_err-take.ensures.ending
+
+pub read_else-returns-in_err-block-clause-ending : goal.read_else-returns-in_err-block-clause-ending
+read_else-returns-in_err-block-clause-ending t c = c.in_err-block.ensures.ending ∙ c.in_ok-take.ensures.ending
+
+pub read_else-returns-in_ok-block-clause-ending : goal.read_else-returns-in_ok-block-clause-ending
+read_else-returns-in_ok-block-clause-ending t c = c.in_ok-block.ensures.ending ∙ c.in_ok-take.ensures.ending
+
+pub read_else-returns-in_ok-block-clause-shorter : goal.read_else-returns-in_ok-block-clause-shorter
+read_else-returns-in_ok-block-clause-shorter t c =
+    at_most (and_fewer c.in_ok-block.ensures.shorter c.in_ok-take.ensures.shorter)
+
+pub read_while-returns-in_err-take-clause-ending : goal.read_while-returns-in_err-take-clause-ending
+read_while-returns-in_err-take-clause-ending t c = c.in_err-take.ensures.ending
+
+pub read_while-returns-in_err-test-clause-ending : goal.read_while-returns-in_err-test-clause-ending
+read_while-returns-in_err-test-clause-ending t c = c.in_err-test.ensures.ending ∙ c.in_ok-take.ensures.ending
+
+pub read_while-returns-in_err-block-clause-ending : goal.read_while-returns-in_err-block-clause-ending
+read_while-returns-in_err-block-clause-ending t c =
+    c.in_err-block.ensures.ending ∙ c.in_ok-test.ensures.ending ∙ c.in_ok-take.ensures.ending
+
+pub read_while-returns-clause-ending : goal.read_while-returns-clause-ending
+read_while-returns-clause-ending t c =
+    c.in_ok-block.ensures.ending ∙ c.in_ok-test.ensures.ending ∙ c.in_ok-take.ensures.ending
+
+pub read_while-returns-clause-shorter : goal.read_while-returns-clause-shorter
+read_while-returns-clause-shorter t c =
+    and_fewer c.in_ok-block.ensures.shorter (and_fewer c.in_ok-test.ensures.shorter c.in_ok-take.ensures.shorter)
+
+pub read_receive-returns-in_err-channel-clause-ending : goal.read_receive-returns-in_err-channel-clause-ending
+read_receive-returns-in_err-channel-clause-ending t c = c.in_err-channel.ensures.ending
+
+pub read_receive-returns-in_err-place-clause-ending : goal.read_receive-returns-in_err-place-clause-ending
+read_receive-returns-in_err-place-clause-ending t c = c.in_err-place.ensures.ending ∙ c.in_ok-channel.ensures.ending
+
+pub read_receive-returns-in_err-otherwise-clause-ending : goal.read_receive-returns-in_err-otherwise-clause-ending
+read_receive-returns-in_err-otherwise-clause-ending t c =
+    c.in_err-otherwise.ensures.ending ∙ c.in_ok-place.ensures.ending ∙ c.in_ok-channel.ensures.ending
+
+pub read_receive-returns-clause-ending : goal.read_receive-returns-clause-ending
+read_receive-returns-clause-ending t c =
+    c.in_ok-otherwise.ensures.ending ∙ c.in_ok-place.ensures.ending ∙ c.in_ok-channel.ensures.ending
+
+pub read_receive-returns-clause-shorter : goal.read_receive-returns-clause-shorter
+read_receive-returns-clause-shorter t c =
+    and_fewer c.in_ok-otherwise.ensures.shorter (and_fewer c.in_ok-place.ensures.shorter c.in_ok-channel.ensures.shorter)
+
+pub read_receipt_end-returns-in_err-take-clause-ending : goal.read_receipt_end-returns-in_err-take-clause-ending
+read_receipt_end-returns-in_err-take-clause-ending t c = c.in_err-take.ensures.ending
+
+pub read_receipt_end-returns-in_err-block-clause-ending : goal.read_receipt_end-returns-in_err-block-clause-ending
+read_receipt_end-returns-in_err-block-clause-ending t c =
+    c.in_err-block.ensures.ending ∙ c.in_ok-take.ensures.ending
+
+pub read_receipt_end-returns-in_ok-block-clause-ending : goal.read_receipt_end-returns-in_ok-block-clause-ending
+read_receipt_end-returns-in_ok-block-clause-ending t c = c.in_ok-block.ensures.ending ∙ c.in_ok-take.ensures.ending
+
+pub read_receipt_end-returns-in_ok-block-clause-shorter : goal.read_receipt_end-returns-in_ok-block-clause-shorter
+read_receipt_end-returns-in_ok-block-clause-shorter t c =
+    and_fewer c.in_ok-block.ensures.shorter c.in_ok-take.ensures.shorter
+
+pub read_receipt_end-returns-in_err-take-2-clause-ending : goal.read_receipt_end-returns-in_err-take-2-clause-ending
+read_receipt_end-returns-in_err-take-2-clause-ending t c = c.in_err-take-2.ensures.ending
+
+pub read_receipt_end-returns-in_ok-take-2-clause-ending : goal.read_receipt_end-returns-in_ok-take-2-clause-ending
+read_receipt_end-returns-in_ok-take-2-clause-ending t c = c.in_ok-take-2.ensures.ending
+
+pub read_receipt_end-returns-in_ok-take-2-clause-shorter : goal.read_receipt_end-returns-in_ok-take-2-clause-shorter
+read_receipt_end-returns-in_ok-take-2-clause-shorter t c = c.in_ok-take-2.ensures.shorter
+
+pub read_recover-returns-in_err-recovery-clause-ending : goal.read_recover-returns-in_err-recovery-clause-ending
+read_recover-returns-in_err-recovery-clause-ending t c = c.in_err-recovery.ensures.ending
+
+pub read_recover-returns-clause-ending : goal.read_recover-returns-clause-ending
+read_recover-returns-clause-ending t c = c.in_ok-recovery.ensures.ending
+
+pub read_recover-returns-clause-shorter : goal.read_recover-returns-clause-shorter
+read_recover-returns-clause-shorter t c = c.in_ok-recovery.ensures.shorter
+
+pub read_converse-returns-in_err-name-clause-ending : goal.read_converse-returns-in_err-name-clause-ending
+read_converse-returns-in_err-name-clause-ending t c = c.in_err-name.ensures.ending
+
+pub read_converse-returns-in_err-recovery-clause-ending : goal.read_converse-returns-in_err-recovery-clause-ending
+read_converse-returns-in_err-recovery-clause-ending t c =
+    c.in_err-recovery.ensures.ending ∙ c.in_ok-name.ensures.ending
+
+pub read_converse-returns-clause-ending : goal.read_converse-returns-clause-ending
+read_converse-returns-clause-ending t c = c.in_ok-recovery.ensures.ending ∙ c.in_ok-name.ensures.ending
+
+pub read_converse-returns-clause-shorter : goal.read_converse-returns-clause-shorter
+read_converse-returns-clause-shorter t c = and_fewer c.in_ok-recovery.ensures.shorter c.in_ok-name.ensures.shorter
+
+pub read_recovery-returns-in_err-token-clause-ending : goal.read_recovery-returns-in_err-token-clause-ending
+read_recovery-returns-in_err-token-clause-ending t c = c.in_err-token.ensures.ending
+
+pub read_recovery-returns-in_err-tested-clause-ending : goal.read_recovery-returns-in_err-tested-clause-ending
+read_recovery-returns-in_err-tested-clause-ending t c =
+    c.in_err-tested.ensures.ending ∙ c.in_ok-token.ensures.ending
+
+pub read_recovery-returns-in_err-test-clause-ending : goal.read_recovery-returns-in_err-test-clause-ending
+read_recovery-returns-in_err-test-clause-ending t c =
+    c.in_err-test.ensures.ending ∙ c.in_ok-tested.ensures.ending ∙ c.in_ok-token.ensures.ending
+
+pub read_recovery-returns-in_err-bound-clause-ending : goal.read_recovery-returns-in_err-bound-clause-ending
+read_recovery-returns-in_err-bound-clause-ending t c =
+    c.in_err-bound.ensures.ending ∙ c.in_ok-test.ensures.ending ∙ c.in_ok-tested.ensures.ending ∙ c.in_ok-token.ensures.ending
+
+pub read_recovery-returns-in_err-alternates-clause-ending : goal.read_recovery-returns-in_err-alternates-clause-ending
+read_recovery-returns-in_err-alternates-clause-ending t c =
+    c.in_err-alternates.ensures.ending ∙ c.in_ok-bound.ensures.ending ∙ c.in_ok-test.ensures.ending ∙ c.in_ok-tested.ensures.ending ∙ c.in_ok-token.ensures.ending
+
+pub read_recovery-returns-clause-ending : goal.read_recovery-returns-clause-ending
+read_recovery-returns-clause-ending t c =
+    c.in_ok-alternates.ensures.ending ∙ c.in_ok-bound.ensures.ending ∙ c.in_ok-test.ensures.ending ∙ c.in_ok-tested.ensures.ending ∙ c.in_ok-token.ensures.ending
+
+pub read_recovery-returns-clause-shorter : goal.read_recovery-returns-clause-shorter
+read_recovery-returns-clause-shorter t c =
+    and_fewer c.in_ok-alternates.ensures.shorter (and_fewer c.in_ok-bound.ensures.shorter (and_fewer c.in_ok-test.ensures.shorter (and_fewer c.in_ok-tested.ensures.shorter c.in_ok-token.ensures.shorter)))
+
+pub read_alternates-returns-in_err-alternate-clause-ending : goal.read_alternates-returns-in_err-alternate-clause-ending
+read_alternates-returns-in_err-alternate-clause-ending t c =
+    c.in_err-alternate.ensures.ending ∙ c.alternates.invariant.ending
+
+pub read_alternates-returns-in_err-append-clause-ending : goal.read_alternates-returns-in_err-append-clause-ending
+read_alternates-returns-in_err-append-clause-ending t c =
+    c.in_ok-alternate.ensures.ending ∙ c.alternates.invariant.ending
+
+pub read_alternates-returns-in_err-read_no_alternate-clause-ending : goal.read_alternates-returns-in_err-read_no_alternate-clause-ending
+read_alternates-returns-in_err-read_no_alternate-clause-ending t c =
+    c.in_err-read_no_alternate.ensures.ending ∙ c.in_ok-alternate.ensures.ending ∙ c.alternates.invariant.ending
+
+pub read_alternates-alternates-smaller : goal.read_alternates-alternates-smaller
+read_alternates-alternates-smaller t c = c.in_ok-alternate.ensures.shorter
+
+pub read_alternates-returns-then-not-stands_at-clause-ending : goal.read_alternates-returns-then-not-stands_at-clause-ending
+read_alternates-returns-then-not-stands_at-clause-ending t c =
+    c.in_ok-read_no_alternate.ensures.ending ∙ c.in_ok-alternate.ensures.ending ∙ c.alternates.invariant.ending
+
+pub read_alternates-returns-then-not-stands_at-clause-shorter : goal.read_alternates-returns-then-not-stands_at-clause-shorter
+read_alternates-returns-then-not-stands_at-clause-shorter t c =
+    and_fewer c.in_ok-read_no_alternate.ensures.shorter (fewer_still c.in_ok-alternate.ensures.shorter c.alternates.invariant.shorter)
+
+pub read_alternate-returns-in_err-take-clause-ending : goal.read_alternate-returns-in_err-take-clause-ending
+read_alternate-returns-in_err-take-clause-ending t c = c.in_err-take.ensures.ending
+
+pub read_alternate-returns-in_err-block-clause-ending : goal.read_alternate-returns-in_err-block-clause-ending
+read_alternate-returns-in_err-block-clause-ending t c = c.in_err-block.ensures.ending ∙ c.in_ok-take.ensures.ending
+
+pub read_alternate-returns-clause-ending : goal.read_alternate-returns-clause-ending
+read_alternate-returns-clause-ending t c =
+    c.closed.ensures.ending ∙ c.in_ok-block.ensures.ending ∙ c.in_ok-take.ensures.ending
+
+pub read_alternate-returns-clause-shorter : goal.read_alternate-returns-clause-shorter
+read_alternate-returns-clause-shorter t c =
+    call_fewer _ _ c.closed.result c.closed.ensures.shorter (and_fewer c.in_ok-block.ensures.shorter c.in_ok-take.ensures.shorter)
