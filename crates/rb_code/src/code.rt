@@ -33,7 +33,7 @@ impl Drop for Code {
 impl Code {
     /// The names alone; the rest is let go.
     pub fn into_names(self) -> Names
-        ensures { result ≡ self.entry.names }
+        ensures { result ≡ self.names }
     {
         let Code {
             edition: _,

@@ -93,7 +93,7 @@ pub(crate) fn outsiders(alloc: Global, processes: &[u32]) -> Result<Vec<Member>,
 {
     let mut members = Vec::with_capacity(alloc, processes.len())?;
     for process in processes {
-        members.push(Member::outside(*process))?;
+        members.push_reserved(Member::outside(*process));
     }
     Ok(members)
 }
@@ -110,25 +110,42 @@ pub(crate) fn process_of(members: &[Member], k: usize) -> u32
 pub(crate) fn is_inside(members: &[Member], p: u32) -> bool
     ensures { result ≡ list_any (λ member. nat_eq member.process p && is_within member.place) members.now }
 {
-    members
-        .iter()
-        .any(|member| member.process == p && member.place.is_within())
+    let mut rest = members;
+    while let [member, after @ ..] = rest {
+        if member.process == p && member.place.is_within() {
+            return true;
+        }
+        rest = after;
+    }
+    false
 }
 
 /// Whether a process stands at the test line.
 pub(crate) fn stands(members: &[Member], p: u32) -> bool
     ensures { result ≡ list_any (λ member. nat_eq member.process p && is_at_line member.place) members.now }
 {
-    members
-        .iter()
-        .any(|member| member.process == p && member.place.is_at_line())
+    let mut rest = members;
+    while let [member, after @ ..] = rest {
+        if member.process == p && member.place.is_at_line() {
+            return true;
+        }
+        rest = after;
+    }
+    false
 }
 
 /// Whether every member stands at the test line.
 pub(crate) fn all_stand(members: &[Member]) -> bool
     ensures { result ≡ list_all (λ member. is_at_line member.place) members.now }
 {
-    members.iter().all(|member| member.place.is_at_line())
+    let mut rest = members;
+    while let [member, after @ ..] = rest {
+        if !member.place.is_at_line() {
+            return false;
+        }
+        rest = after;
+    }
+    true
 }
 
 /// One process goes to a place.

@@ -36,7 +36,7 @@ impl Table {
     {
         let mut conversations = Vec::with_capacity(alloc, nested.conversations.len())?;
         for group in &nested.conversations {
-            conversations.push(Conversation::new(alloc, group)?)?;
+            conversations.push_reserved(Conversation::new(alloc, group)?);
         }
         Ok(Table { conversations })
     }

@@ -13,7 +13,7 @@ use Rattle.rb_domino.specs.declared.line.Message.{Message}
 use Rattle.rb_domino.specs.declared.reader.LineRefusal.{LineRefusal}
 use Rattle.rb_domino.specs.declared.reader.LineRefusal.TheVariants.{Memory}
 use Rattle.rb_domino.specs.declared.reader.Reader.{Reader}
-use Rattle.rb_domino.specs.History.{IsHistory, Story, begun, before_failure, begins, has_failed, is_failure, is_take_of, is_taken, message_of, process_of, sends, sent_by, with_line}
+use Rattle.rb_domino.specs.History.{IsHistory, Story, begun, before_failure, has_failed, is_failure, is_take_of, process_of, sends, sent_by, with_line}
 use Rattle.rb_domino.specs.Reading.{FindsNames, Stands, Takes, story_of}
 use Rattle.rb_domino.proofs.Named.{any_now, any_still, marks_added, names_added}
 

@@ -2,7 +2,7 @@
 
 ghost use Rattle.std.specs.Prelude.{◌≡◌, ◌+◌, ◌*◌, ◌<◌, ◌≤◌, ◌^◌, length, IfOk, OnOk};
 ghost use Rattle.rb_domino.specs.Board.{Falls, Holds, left_on};
-ghost use Rattle.rb_domino.specs.Recovery.{failure_from, falls, falls_by_messages, line_of, outcome_of};
+ghost use Rattle.rb_domino.specs.Recovery.{all_states, failure_from, falls, falls_by_messages, line_of, outcome_of};
 ghost use Rattle.rb_domino.specs.RecoveryLine.{IsRecovered, recovery_line};
 ghost use Rattle.rb_domino.specs.Work.{owed};
 
@@ -53,8 +53,27 @@ pub fn analyse<L: Ledger>(
 {
     let lines = history.lines();
     let mut board = Board::new(alloc, history, steps)?;
+    analyse_on(alloc, &mut board, history, lines, steps)
+}
+
+/// What a failure leaves on a board from which nothing was given up yet.
+fn analyse_on<L: Ledger>(
+    alloc: Global,
+    board: &mut Board,
+    history: &History,
+    lines: &[Line],
+    steps: &mut Steps<L>,
+) -> Result<Analysis, Memory>
+    requires holds { Holds history.now board.old }
+    requires whole { left_on board.old ≡ all_states history.now }
+    requires lines { lines.now ≡ history.now.lines }
+    requires few { length lines.now < 2 ^ 32 }
+    ensures drops { IfOk result (λ analysis. analysis.drops.items ≡ (outcome_of history.now).drops) }
+    ensures line { IfOk result (λ analysis. analysis.line.items ≡ line_of (outcome_of history.now).left) }
+    ensures work { steps.new ≤ steps.old + 2 * length lines.now + owed board.old + length history.now.processes }
+{
     let mut drops = Vec::new(alloc);
-    fall_all(&mut board, history, lines, &mut drops, steps)?;
+    fall_all(board, history, lines, &mut drops, steps)?;
     let line = board.line(alloc, steps)?;
     Ok(Analysis { drops, line })
 }

@@ -123,7 +123,7 @@ impl Board {
     {
         let mut line = Vec::with_capacity(alloc, self.states.len())?;
         for states in &self.states {
-            line.push(latest(states.as_slice()).number)?;
+            line.push_reserved(latest(states.as_slice()).number);
             steps.tick();
         }
         Ok(line)

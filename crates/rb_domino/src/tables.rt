@@ -124,7 +124,7 @@ pub(crate) fn all_takes<L: Ledger>(
     let messages = history.messages().len();
     let mut takes = Vec::with_capacity(alloc, messages)?;
     for _made in 0..messages {
-        takes.push(None)?;
+        takes.push_reserved(None);
         steps.tick();
     }
     let mut at = 0;
@@ -159,7 +159,7 @@ fn empty_lists<T: Drop, L: Ledger>(
 {
     let mut lists = Vec::with_capacity(alloc, n)?;
     for _made in 0..n {
-        lists.push(Vec::new(alloc))?;
+        lists.push_reserved(Vec::new(alloc));
         steps.tick();
     }
     Ok(lists)

@@ -2,7 +2,7 @@
 -- lemmas alone, one for each of its tokens and parts.
 use Rattle.std.proofs.Common.{[], ◌≡◌, true, false, Some, None, Result, IfErr, refl, sym, ap, subst, ◌∙◌}
 use Rattle.std.specs.Result.{IsErrAnd}
-use Rattle.std.proofs.lemmas.Result.{err_from_is_err_and}
+use Rattle.std.proofs.lemmas.Result.{err_from_is_err_and, IfErr-weaker}
 use Rattle.std.specs.Option.{is_some}
 use Rattle.rb_base.specs.declared.fault.SourceFault.{SourceFault}
 use Rattle.rb_lex.specs.Tokens.{Lexeme, Ending, AtFault}
@@ -165,6 +165,20 @@ pub exit_first : {T : Type 0} (part : Part) {terminal : Terminal} {before after 
     IfErr r (Stopped (Stops part before.point after.point) (Exhausts part before.point) old)
 exit_first part f s none without r e same h =
     exit r e same (λ m. missed_first m (none m.other) without) (last_start f s) h
+
+-- The same of a last call, whose answer is handed on as it is.
+pub handed : {T P Q L M : Type 0} {old now : Ending} (r : Result T Stop) → now ≡ old → (P → Q) → (L → M) →
+    IfErr r (Stopped P L now) → IfErr r (Stopped Q M old)
+handed {P = P} {Q = Q} {L = L} {M = M} {old = old} {now = now} r same f g h =
+    IfErr-weaker r (Stopped P L now) (Stopped Q M old) (λ _ s. stopped same f g s) h
+
+pub handed_first : {T : Type 0} (part : Part) (terminal : Terminal) (before after : Position) {old now : Ending}
+    (f : Seen → Plan (Value part)) → start part (Some terminal) ≡ Some f →
+    (fits (look before.point.left) terminal ≡ false → start part (look before.point.left) ≡ None) → empty part ≡ None →
+    (r : Result T Stop) → now ≡ old → IfErr r (Stopped (Misses terminal before after) (TakesLast terminal before) now) →
+    IfErr r (Stopped (Stops part before.point after.point) (Exhausts part before.point) old)
+handed_first part terminal before after f s none without r same h =
+    handed r same (λ m. missed_first m (none m.other) without) (last_start f s) h
 
 pub exit_sure : {T : Type 0} {part : Part} {terminal : Terminal} {a : Point} (c : Point) {before after : Position}
     {old now : Ending} {given : Stop} (r : Result T Stop) → IsErrAnd r (λ stop. stop ≡ given) → now ≡ old →

@@ -1,5 +1,6 @@
 -- No word and no mark is a number: a token that stands for one is one.
 use Rattle.std.proofs.Common.{◌≡◌, ℕ, ℤ, nat_eq, cond, Bool, true, false, not, ◌&&◌, List, [], ◌∷◌, Option, Some, refl, ap, ◌∙◌}
+use Rattle.std.proofs.lemmas.Bool.{false≢true}
 use Rattle.std.specs.List.{list_all}
 use Rattle.std.specs.Cmp.Lexicographic.{pointwise}
 use Rattle.rb_lex.specs.declared.token.Kind.{Kind}
@@ -33,12 +34,12 @@ pub number_kind : (kind : Kind) (text : List ℕ) → terminal_of_kind kind text
 number_kind kinds.Name text e = absurd cc
 number_kind (kinds.Number value) text e = (value, refl)
 number_kind kinds.Text text e = absurd cc
-number_kind kinds.Word text e = absurd (let h = spelled_all is_no_number text words terminals.Number refl e in cc)
-number_kind kinds.Mark text e = absurd (let h = spelled_all is_no_number text marks terminals.Number refl e in cc)
+number_kind kinds.Word text e = absurd (false≢true (spelled_all is_no_number text words terminals.Number refl e))
+number_kind kinds.Mark text e = absurd (false≢true (spelled_all is_no_number text marks terminals.Number refl e))
 
 pub two_kind : (kind : Kind) (text : List ℕ) → terminal_of_kind kind text ≡ Some terminals.Two → (value : ℤ) × (kind ≡ kinds.Number value)
 two_kind kinds.Name text e = absurd cc
 two_kind (kinds.Number value) text e = (value, refl)
 two_kind kinds.Text text e = absurd cc
-two_kind kinds.Word text e = absurd (let h = spelled_all is_no_number text words terminals.Two refl e in cc)
-two_kind kinds.Mark text e = absurd (let h = spelled_all is_no_number text marks terminals.Two refl e in cc)
+two_kind kinds.Word text e = absurd (false≢true (spelled_all is_no_number text words terminals.Two refl e))
+two_kind kinds.Mark text e = absurd (false≢true (spelled_all is_no_number text marks terminals.Two refl e))

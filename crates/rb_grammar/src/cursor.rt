@@ -160,8 +160,7 @@ impl<'a> Cursor<'a> {
         ensures shorter { OnOk result (length self.new.point.left < length self.old.point.left) }
     {
         self.take(terminal)?;
-        let name = self.take_name()?;
-        Ok(name)
+        self.take_name()
     }
 
     /// Takes the first two tokens, which are to be of these terminals.

@@ -21,7 +21,6 @@ pub fn read_number<'a>(cursor: &mut Cursor<'a>) -> Result<Number, Stop>
         let (value, place) = (2, token.place);
         Ok(Number { value, place })
     } else {
-        let number = cursor.take_number()?;
-        Ok(number)
+        cursor.take_number()
     }
 }

@@ -15,6 +15,7 @@ use rb_walk::items::First;
 use rb_walk::{Environment, State};
 
 /// An open level: its recovery block, the number of its conversation if it has one, and what stood at its entry.
+#[derive(Drop)]
 pub struct Level<'t, 'a> {
     pub block: &'t Recovery<'a>,
     pub conversation: Option<usize>,
@@ -23,36 +24,14 @@ pub struct Level<'t, 'a> {
     pub environment: Environment<'a>,
 }
 
-impl Drop for Level<'_, '_> {
-    fn drop(self) {
-        let Level {
-            block: _,
-            conversation: _,
-            sent: _,
-            taken: _,
-            environment: _,
-        } = self;
-    }
-}
-
 /// A process: its state, its open levels from the outside in, whether it stands at the test line of the innermost, and whether it is
 /// done.
+#[derive(Drop)]
 pub struct Process<'t, 'a> {
     pub state: State<'t, 'a>,
     pub levels: Vec<Level<'t, 'a>>,
     pub at_line: bool,
     pub is_done: bool,
-}
-
-impl Drop for Process<'_, '_> {
-    fn drop(self) {
-        let Process {
-            state: _,
-            levels: _,
-            at_line: _,
-            is_done: _,
-        } = self;
-    }
 }
 
 impl<'t, 'a> Level<'t, 'a> {

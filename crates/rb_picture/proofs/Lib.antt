@@ -10,3 +10,4 @@ pub mod MeantWords
 pub mod MeantHead
 pub mod PlacesMeant
 pub mod AsMeant
+pub mod Walked

@@ -49,6 +49,11 @@ module _ {A B : Type 0} (text : B → List ℕ) (f : A → B) where
   pub flat_end : (i : ℕ) (xs : List A) → length xs ≤ i → flat_map text (drop i (map f xs)) ≡ []
   flat_end i xs h = ap (flat_map text) (drop_of_length-le (map f xs) (omega (arith, h, length-map xs f)))
 
+-- a line by its first word and the others
+pub line_begins : (first : List ℕ) (words : List (List ℕ)) → 0 < length words → (first ++ 32 ∷ []) ++ line_of words ≡ line_of (first ∷ words)
+line_begins first [] h = absurd (omega (arith, h))
+line_begins first (word ∷ words) h = append_assoc first (32 ∷ []) (line_of (word ∷ words))
+
 -- the words of a line that follow four others
 pub line_ends : (a b c d : List ℕ) (words : List (List ℕ)) → 0 < length words
     → line_of (a ∷ b ∷ c ∷ d ∷ words) ≡ a ++ 32 ∷ (b ++ 32 ∷ (c ++ 32 ∷ (d ++ 32 ∷ line_of words)))

@@ -1,12 +1,13 @@
 //! The lines that tell what a turn changed, one thing each.
 
-ghost use Rattle.std.specs.Prelude.{[], ◌∷◌, codes, Some, None};
+ghost use Rattle.std.specs.Prelude.{◌<◌, [], ◌∷◌, codes, length, map, Some, None};
 ghost use Rattle.rb_outside.specs.Puts.{Puts};
 ghost use Rattle.rb_picture.specs.Changes.{alternate_line, back_to, broken_line, depth_line, held_line, index_word, last_line, level_line, line_in, message_line, numbers_line, value_line};
 
 use crate::noted::{Numbers, OpenLevel};
 use itoa::Buffer;
 use rb_outside::{Failed, Sink};
+use rb_trace::line::put_pieces;
 use rb_trace::put_line;
 
 /// The value of a variable of a process that is no array.
@@ -20,11 +21,9 @@ pub fn write_scalar<'w, S: Sink>(
     ensures { Puts (value_line turn process.now variable.now (index_word None) value) (S.written out.old) (S.written out.new) (S.faults out.old)
         (S.faults out.new) result }
 {
-    let mut turns = Buffer::new();
     let mut values = Buffer::new();
-    let turn = turns.format(turn).as_bytes();
     let value = values.format(value).as_bytes();
-    put_line(out, &[turn, b"var", process, variable, b"-", value])
+    put_changed(out, turn, &[b"var", process, variable, b"-", value])
 }
 
 /// The value of an element of an array.
@@ -39,13 +38,11 @@ pub fn write_element<'w, S: Sink>(
     ensures { Puts (value_line turn process.now variable.now (index_word (Some element)) value) (S.written out.old) (S.written out.new) (S.faults out.old)
         (S.faults out.new) result }
 {
-    let mut turns = Buffer::new();
     let mut elements = Buffer::new();
     let mut values = Buffer::new();
-    let turn = turns.format(turn).as_bytes();
     let element = elements.format(element).as_bytes();
     let value = values.format(value).as_bytes();
-    put_line(out, &[turn, b"var", process, variable, element, value])
+    put_changed(out, turn, &[b"var", process, variable, element, value])
 }
 
 /// How many levels a process has open.
@@ -58,11 +55,9 @@ pub fn write_depth<'w, S: Sink>(
     ensures { Puts (depth_line turn process.now count) (S.written out.old) (S.written out.new) (S.faults out.old)
         (S.faults out.new) result }
 {
-    let mut turns = Buffer::new();
     let mut counts = Buffer::new();
-    let turn = turns.format(turn).as_bytes();
     let count = counts.format(count).as_bytes();
-    put_line(out, &[turn, b"levels", process, count])
+    put_changed(out, turn, &[b"levels", process, count])
 }
 
 /// An open level of a process; the outermost has number 1.
@@ -76,22 +71,20 @@ pub fn write_level<'w, S: Sink>(
     ensures { Puts (level_line turn process.now number level) (S.written out.old) (S.written out.new) (S.faults out.old)
         (S.faults out.new) result }
 {
-    let mut turns = Buffer::new();
     let mut numbers = Buffer::new();
     let mut blocks = Buffer::new();
     let mut alternates = Buffer::new();
     let mut uses = Buffer::new();
     let mut entries = Buffer::new();
-    let turn = turns.format(turn).as_bytes();
     let number = numbers.format(number).as_bytes();
     let block = blocks.format(level.block).as_bytes();
     let alternate = alternates.format(level.alternate).as_bytes();
     let used = uses.format(level.used).as_bytes();
     let entered = entries.format(level.entered).as_bytes();
-    put_line(
+    put_changed(
         out,
+        turn,
         &[
-            turn,
             b"level",
             process,
             number,
@@ -117,11 +110,9 @@ pub fn write_held<'w, S: Sink>(
     ensures { Puts (held_line turn process.now count) (S.written out.old) (S.written out.new) (S.faults out.old)
         (S.faults out.new) result }
 {
-    let mut turns = Buffer::new();
     let mut counts = Buffer::new();
-    let turn = turns.format(turn).as_bytes();
     let count = counts.format(count).as_bytes();
-    put_line(out, &[turn, b"held", process, count])
+    put_changed(out, turn, &[b"held", process, count])
 }
 
 /// The line that a process holds last, and its number.
@@ -135,11 +126,9 @@ pub fn write_last_line<'w, S: Sink>(
     ensures { Puts (last_line turn process.now number (Some line.now)) (S.written out.old) (S.written out.new) (S.faults out.old)
         (S.faults out.new) result }
 {
-    let mut turns = Buffer::new();
     let mut numbers = Buffer::new();
-    let turn = turns.format(turn).as_bytes();
     let number = numbers.format(number).as_bytes();
-    put_line(out, &[turn, b"line", process, number, line])
+    put_changed(out, turn, &[b"line", process, number, line])
 }
 
 /// The recovery point to which a process went back, by the turn of its entry.
@@ -152,11 +141,9 @@ pub fn write_back<'w, S: Sink>(
     ensures { Puts (back_to turn process.now entered) (S.written out.old) (S.written out.new) (S.faults out.old)
         (S.faults out.new) result }
 {
-    let mut turns = Buffer::new();
     let mut entries = Buffer::new();
-    let turn = turns.format(turn).as_bytes();
     let entered = entries.format(entered).as_bytes();
-    put_line(out, &[turn, b"back", process, b"to", entered])
+    put_changed(out, turn, &[b"back", process, b"to", entered])
 }
 
 /// In one word how a process stands that has not failed.
@@ -169,9 +156,7 @@ pub fn write_stand<'w, S: Sink>(
     ensures { Puts (line_in turn (codes "state" ∷ process.now ∷ word.now ∷ [])) (S.written out.old) (S.written out.new) (S.faults out.old)
         (S.faults out.new) result }
 {
-    let mut turns = Buffer::new();
-    let turn = turns.format(turn).as_bytes();
-    put_line(out, &[turn, b"state", process, word])
+    put_changed(out, turn, &[b"state", process, word])
 }
 
 /// That a process has failed, and with which cause.
@@ -184,9 +169,7 @@ pub fn write_failure<'w, S: Sink>(
     ensures { Puts (line_in turn (codes "state" ∷ process.now ∷ codes "failed" ∷ cause.now ∷ [])) (S.written out.old) (S.written out.new) (S.faults out.old)
         (S.faults out.new) result }
 {
-    let mut turns = Buffer::new();
-    let turn = turns.format(turn).as_bytes();
-    put_line(out, &[turn, b"state", process, b"failed", cause])
+    put_changed(out, turn, &[b"state", process, b"failed", cause])
 }
 
 /// The numbers of a channel.
@@ -199,20 +182,19 @@ pub fn write_numbers<'w, S: Sink>(
     ensures { Puts (numbers_line turn channel.now numbers) (S.written out.old) (S.written out.new) (S.faults out.old)
         (S.faults out.new) result }
 {
-    let mut turns = Buffer::new();
     let mut sends = Buffer::new();
     let mut receipts = Buffer::new();
     let mut sights = Buffer::new();
     let mut rooms = Buffer::new();
-    let turn = turns.format(turn).as_bytes();
     let sent = sends.format(numbers.sent).as_bytes();
     let taken = receipts.format(numbers.taken).as_bytes();
     let seen = sights.format(numbers.seen).as_bytes();
     let free = rooms.format(numbers.free).as_bytes();
-    put_line(
+    put_changed(
         out,
+        turn,
         &[
-            turn, b"channel", channel, b"sent", sent, b"taken", taken, b"seen", seen, b"free", free,
+            b"channel", channel, b"sent", sent, b"taken", taken, b"seen", seen, b"free", free,
         ],
     )
 }
@@ -228,13 +210,11 @@ pub fn write_message<'w, S: Sink>(
     ensures { Puts (message_line turn channel.now number value) (S.written out.old) (S.written out.new) (S.faults out.old)
         (S.faults out.new) result }
 {
-    let mut turns = Buffer::new();
     let mut numbers = Buffer::new();
     let mut values = Buffer::new();
-    let turn = turns.format(turn).as_bytes();
     let number = numbers.format(number).as_bytes();
     let value = values.format(value).as_bytes();
-    put_line(out, &[turn, b"message", channel, number, value])
+    put_changed(out, turn, &[b"message", channel, number, value])
 }
 
 /// The present alternate of a conversation.
@@ -247,13 +227,12 @@ pub fn write_alternate<'w, S: Sink>(
     ensures { Puts (alternate_line turn conversation.now alternate) (S.written out.old) (S.written out.new) (S.faults out.old)
         (S.faults out.new) result }
 {
-    let mut turns = Buffer::new();
     let mut alternates = Buffer::new();
-    let turn = turns.format(turn).as_bytes();
     let alternate = alternates.format(alternate).as_bytes();
-    put_line(
+    put_changed(
         out,
-        &[turn, b"conversation", conversation, b"alternate", alternate],
+        turn,
+        &[b"conversation", conversation, b"alternate", alternate],
     )
 }
 
@@ -266,7 +245,17 @@ pub fn write_broken<'w, S: Sink>(
     ensures { Puts (broken_line turn conversation.now) (S.written out.old) (S.written out.new) (S.faults out.old)
         (S.faults out.new) result }
 {
+    put_changed(out, turn, &[b"conversation", conversation, b"broken"])
+}
+
+// A line of a turn with these words, of which there is one at least.
+fn put_changed<S: Sink>(out: &mut S, turn: u32, words: &[&[u8]]) -> Result<(), Failed>
+    requires { 0 < length words.now }
+    ensures { Puts (line_in turn (map (λ word. word.now) words.now)) (S.written out.old) (S.written out.new) (S.faults out.old)
+        (S.faults out.new) result }
+{
     let mut turns = Buffer::new();
-    let turn = turns.format(turn).as_bytes();
-    put_line(out, &[turn, b"conversation", conversation, b"broken"])
+    let number = turns.format(turn).as_bytes();
+    put_pieces(out, &[number, b" "])?;
+    put_line(out, words)
 }

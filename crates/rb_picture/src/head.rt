@@ -33,6 +33,20 @@ pub fn write_head<S: Sink>(
     write_edition(out, code.edition)?;
     write_processes(out, &code.names.processes)?;
     write_channels(out, &code.names, &code.channels)?;
+    write_meetings(out, code, nested, turns)
+}
+
+// Its conversations, its recovery blocks, and how many turns the run has.
+fn write_meetings<S: Sink>(
+    out: &mut S,
+    code: &Code,
+    nested: &Nested,
+    turns: u32,
+) -> Result<(), Failed>
+    ensures { Puts (numbered (conversation_head (naming code.now.names)) 0 (map meeting nested.now.conversations.items)
+        ++ (numbered (block_head (naming code.now.names)) 0 (map plain_block code.now.blocks.items) ++ line_of (codes "turns" ∷ decimal turns ∷ [])))
+        (S.written out.old) (S.written out.new) (S.faults out.old) (S.faults out.new) result }
+{
     write_conversations(out, &code.names, &nested.conversations)?;
     write_blocks(out, &code.names, &code.blocks)?;
     write_turns(out, turns)

@@ -20,8 +20,7 @@ pub fn places_of(
     ensures { IfOk result (λ places. places.items ≡ places_told (tree program.now) code.now.instrs.items) }
 {
     let turns = places_of_turns(alloc, program)?;
-    let places = at_turns(alloc, &turns, &code.instrs)?;
-    Ok(places)
+    at_turns(alloc, &turns, &code.instrs)
 }
 
 // The places of turns in their order, each at the address of its `turn`.
@@ -32,14 +31,14 @@ fn at_turns(
 ) -> Result<Vec<Option<Place>>, Memory>
     ensures { IfOk result (λ places. places.items ≡ placed_from 0 turns.now instrs.now) }
 {
-    let mut places = Vec::new(alloc);
+    let mut places = Vec::with_capacity(alloc, instrs.len())?;
     let mut next = 0;
     for instr in instrs {
         if begins_turn(instr) {
-            places.push(number(turns, next))?;
+            places.push_reserved(number(turns, next));
             next += 1;
         } else {
-            places.push(None)?;
+            places.push_reserved(None);
         }
     }
     Ok(places)

@@ -128,11 +128,10 @@ fn add_otherwise(turns: &mut Vec<Option<Place>>, other: &Option<Block<'_>>) -> R
 fn add_recovery(turns: &mut Vec<Option<Place>>, recovery: &Recovery<'_>) -> Result<(), Memory>
     ensures { OnOk result (turns.new.items ≡ turns.old.items ++ recovery_turns (recovery_block recovery.now)) }
 {
-    turns.push(Some(recovery.place))?;
-    turns.push(Some(recovery.place))?;
+    add_place(turns, Some(recovery.place))?;
+    add_place(turns, Some(recovery.place))?;
     add_alternates(turns, &recovery.alternates)?;
-    turns.push(Some(recovery.place))?;
-    Ok(())
+    add_place(turns, Some(recovery.place))
 }
 
 /// Adds those of alternates.

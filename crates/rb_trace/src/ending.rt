@@ -61,13 +61,6 @@ fn put_numbers<S: Sink>(out: &mut S, values: &[i64]) -> Result<(), Failed>
         (S.written out.new) (S.faults out.old) (S.faults out.new) result }
 {
     put(out, b" =")?;
-    put_values_line(out, values)
-}
-
-fn put_values_line<S: Sink>(out: &mut S, values: &[i64]) -> Result<(), Failed>
-    ensures { Puts (spaced (map signed_decimal values.now) ++ 10 ∷ []) (S.written out.old) (S.written out.new)
-        (S.faults out.old) (S.faults out.new) result }
-{
     put_values(out, values)?;
     put(out, b"\n")
 }

@@ -8,7 +8,7 @@ ghost use Rattle.rb_world.specs.Text.{Final, end_text, values_text, line_of, var
 ghost use Rattle.rb_trace.specs.Naming.{naming, process_naming, variable_naming};
 ghost use Rattle.rb_trace.specs.Lines.{spaced};
 ghost use Rattle.rb_trace.specs.Fitting.{LiesWithin, ProcessFits, Fits};
-ghost use Rattle.rb_trace.specs.Ended.{IsEndOf, ended_text, numbers_printed, process_text, processes_text, words_of as words_in, words_printed};
+ghost use Rattle.rb_trace.specs.Ended.{IsEndOf, numbers_printed, process_text, processes_text, words_of as words_in, words_printed};
 
 use crate::ending::{put_name, put_value, write_end_line, write_status};
 use crate::line::{put, put_line};
@@ -33,22 +33,6 @@ pub fn write_end<S: Sink, M: Final>(
     ensures work { steps.new ≤ steps.old + numbers_printed (naming names.now) }
 {
     write_end_line(out, turns)?;
-    write_ended(out, names, end, steps)
-}
-
-fn write_ended<S: Sink, M: Final>(
-    out: &mut S,
-    names: &Names,
-    end: &M,
-    steps: &mut Steps<M::Ledger>,
-) -> Result<(), Failed>
-    requires states { length (M.states end.now) ≡ length names.now.processes.items }
-    requires fit { Fits names.now (M.words end.now) (M.sent end.now) (M.taken end.now) }
-    ensures text { Puts
-        (ended_text (naming names.now) (M.states end.now) (M.words end.now) (M.sent end.now) (M.taken end.now))
-        (S.written out.old) (S.written out.new) (S.faults out.old) (S.faults out.new) result }
-    ensures work { steps.new ≤ steps.old + numbers_printed (naming names.now) }
-{
     write_processes(out, names, end, steps)?;
     write_channels(out, names, end, steps)
 }
@@ -186,23 +170,6 @@ fn put_words<S: Sink, M: Final>(
     ensures work { steps.new ≤ steps.old + size }
 {
     put(out, b" =")?;
-    put_words_line(out, p, at, size, end, steps)
-}
-
-fn put_words_line<S: Sink, M: Final>(
-    out: &mut S,
-    p: u32,
-    at: u32,
-    size: u32,
-    end: &M,
-    steps: &mut Steps<M::Ledger>,
-) -> Result<(), Failed>
-    requires few { length (belonging (M.words end.now) p) < 2 ^ 32 }
-    requires within { at + size ≤ length (belonging (M.words end.now) p) }
-    ensures text { Puts (spaced (map signed_decimal (take size (drop at (belonging (M.words end.now) p)))) ++ 10 ∷ [])
-        (S.written out.old) (S.written out.new) (S.faults out.old) (S.faults out.new) result }
-    ensures work { steps.new ≤ steps.old + size }
-{
     put_each_word(out, p, at, size, end, steps)?;
     put(out, b"\n")
 }

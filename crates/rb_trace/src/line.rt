@@ -24,13 +24,6 @@ fn put_first<S: Sink>(out: &mut S, first: &[u8], others: &[&[u8]]) -> Result<(),
         (S.written out.new) (S.faults out.old) (S.faults out.new) result }
 {
     put(out, first)?;
-    put_rest(out, others)
-}
-
-fn put_rest<S: Sink>(out: &mut S, others: &[&[u8]]) -> Result<(), Failed>
-    ensures { Puts (spaced (map (λ word. word.now) others.now) ++ 10 ∷ []) (S.written out.old) (S.written out.new)
-        (S.faults out.old) (S.faults out.new) result }
-{
     put_others(out, others)?;
     put(out, b"\n")
 }

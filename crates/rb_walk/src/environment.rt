@@ -16,18 +16,10 @@ use std::alloc::Global;
 use std::marker::Model;
 
 /// The variables of a process: those that it declares, and the frames of its calls, the running call last.
+#[derive(Drop)]
 pub struct Environment<'a> {
     globals: Vec<Slot<'a>>,
     calls: Vec<Call<'a>>,
-}
-
-impl Drop for Environment<'_> {
-    fn drop(self) {
-        let Environment {
-            globals: _,
-            calls: _,
-        } = self;
-    }
 }
 
 impl<'a> Model for Environment<'a> {

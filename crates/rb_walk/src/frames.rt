@@ -12,26 +12,16 @@ use rb_syntax::{Name, Var};
 use std::alloc::Global;
 
 /// A variable: its name, and its numbers; a scalar has one.
+#[derive(Drop)]
 pub struct Slot<'a> {
     pub name: &'a [u8],
     pub values: Vec<i64>,
 }
 
-impl Drop for Slot<'_> {
-    fn drop(self) {
-        let Slot { name: _, values: _ } = self;
-    }
-}
-
 /// A call under way, or the main body: its frames, the innermost last.
+#[derive(Drop)]
 pub struct Call<'a> {
     pub frames: Vec<Vec<Slot<'a>>>,
-}
-
-impl Drop for Call<'_> {
-    fn drop(self) {
-        let Call { frames: _ } = self;
-    }
 }
 
 /// How many numbers a variable has.

@@ -9,15 +9,10 @@ use std::alloc::Global;
 use std::marker::Model;
 
 /// Held lines, in order, with the number of their bytes, and one more for each line.
+#[derive(Drop)]
 pub struct Held {
     lines: Vec<Vec<u8>>,
     bytes: usize,
-}
-
-impl Drop for Held {
-    fn drop(self) {
-        let Held { lines: _, bytes: _ } = self;
-    }
 }
 
 impl Model for Held {

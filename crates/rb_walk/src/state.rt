@@ -19,6 +19,7 @@ use rb_syntax::{Process as Declaration, Program, Recovery, Statement};
 use std::alloc::Global;
 
 /// The state of a process, as contracts see it over the tree; its kept turns are not noted.
+#[derive(Drop)]
 pub struct State<'t, 'a> {
     pub number: usize,
     pub items: Vec<Item<'t, 'a>>,
@@ -26,19 +27,6 @@ pub struct State<'t, 'a> {
     pub sent: Vec<Vec<i64>>,
     pub taken: Vec<usize>,
     pub held: Held,
-}
-
-impl Drop for State<'_, '_> {
-    fn drop(self) {
-        let State {
-            number: _,
-            items: _,
-            environment: _,
-            sent: _,
-            taken: _,
-            held: _,
-        } = self;
-    }
 }
 
 impl<'t, 'a> State<'t, 'a> {

@@ -1,5 +1,6 @@
 -- What stands behind a part and does not go on with it.
 use Rattle.std.proofs.Common.{◌≡◌, Bool, true, false, ◌||◌, Option, Some, ◌⊎◌, inl, inr, refl, ap, ◌∙◌}
+use Rattle.std.proofs.lemmas.Bool.{false≢true}
 use Rattle.std.specs.Option.{is_some}
 use Rattle.rb_base.specs.declared.edition.Edition.{Edition}
 use Rattle.rb_base.specs.declared.edition.Edition.TheVariants as editions
@@ -98,10 +99,10 @@ links_end levels.Sum (Some terminals.Minus) e = refl
 links_end levels.Product (Some terminals.Star) e = refl
 links_end levels.Product (Some terminals.Slash) e = refl
 links_end levels.Product (Some terminals.Percent) e = refl
-links_end levels.Disjunction _ e = absurd cc
-links_end levels.Conjunction _ e = absurd cc
-links_end levels.Sum _ e = absurd cc
-links_end levels.Product _ e = absurd cc
+links_end levels.Disjunction _ e = absurd (false≢true e)
+links_end levels.Conjunction _ e = absurd (false≢true e)
+links_end levels.Sum _ e = absurd (false≢true e)
+links_end levels.Product _ e = absurd (false≢true e)
 
 pub compared_ends : (first : Option Terminal) → is_some (start_compared (comparison first)) ≡ true → goes_sum first ≡ false
 compared_ends (Some terminals.Equal) e = refl
@@ -110,46 +111,46 @@ compared_ends (Some terminals.Less) e = refl
 compared_ends (Some terminals.LessEqual) e = refl
 compared_ends (Some terminals.Greater) e = refl
 compared_ends (Some terminals.GreaterEqual) e = refl
-compared_ends _ e = absurd cc
+compared_ends _ e = absurd (false≢true e)
 
 pub block_ends : (edition : Edition) (first : Option Terminal) → is_some (start_block edition first) ≡ true → goes_expression first ≡ false
 block_ends edition (Some terminals.OpenBrace) e = refl
-block_ends edition _ e = absurd cc
+block_ends edition _ e = absurd (false≢true e)
 
 pub receipt_ends : (edition : Edition) (first : Option Terminal) → is_some (start_receipt_end edition first) ≡ true → goes_place first ≡ false
-receipt_ends editions.First (Some terminals.OpenBracket) e = absurd cc
-receipt_ends editions.Second (Some terminals.OpenBracket) e = absurd cc
+receipt_ends editions.First (Some terminals.OpenBracket) e = absurd (false≢true e)
+receipt_ends editions.Second (Some terminals.OpenBracket) e = absurd (false≢true e)
 receipt_ends _ _ e = refl
 
 pub items_end : (first : Option Terminal) → is_some (start_more_items first) ≡ true → goes_expression first ≡ false
 items_end (Some terminals.Comma) e = refl
-items_end _ e = absurd cc
+items_end _ e = absurd (false≢true e)
 
 pub expressions_end : (first : Option Terminal) → is_some (start_more_expressions first) ≡ true → goes_expression first ≡ false
 expressions_end (Some terminals.Comma) e = refl
-expressions_end _ e = absurd cc
+expressions_end _ e = absurd (false≢true e)
 
 pub processes_end : (edition : Edition) (first : Option Terminal) → is_some (start_processes edition first) ≡ true →
     is_some (start_connections first) ≡ false
 processes_end edition (Some terminals.Process) e = refl
-processes_end edition _ e = absurd cc
+processes_end edition _ e = absurd (false≢true e)
 
 pub procedures_end : (edition : Edition) (first : Option Terminal) → is_some (start_procedures edition first) ≡ true →
     is_some (start_declarations first) ≡ false
 procedures_end edition (Some terminals.Procedure) e = refl
-procedures_end edition _ e = absurd cc
+procedures_end edition _ e = absurd (false≢true e)
 
 pub statements_end_declarations : (edition : Edition) (first : Option Terminal) →
     is_some (start_statements edition first) ≡ true → is_some (start_declarations first) ≡ false
-statements_end_declarations edition (Some terminals.Var) e = absurd cc
+statements_end_declarations edition (Some terminals.Var) e = absurd (false≢true e)
 statements_end_declarations edition _ e = refl
 
 pub statements_end_procedures : (edition : Edition) (first : Option Terminal) → is_some (start_statements edition first) ≡ true →
     is_some (start_procedures edition first) ≡ false
-statements_end_procedures edition (Some terminals.Procedure) e = absurd cc
+statements_end_procedures edition (Some terminals.Procedure) e = absurd (false≢true e)
 statements_end_procedures edition _ e = refl
 
 pub statements_end_statement : (edition : Edition) (first : Option Terminal) → is_some (start_statements edition first) ≡ true →
     is_some (start_optional_else edition first) ≡ false
-statements_end_statement edition (Some terminals.Else) e = absurd cc
+statements_end_statement edition (Some terminals.Else) e = absurd (false≢true e)
 statements_end_statement edition _ e = refl

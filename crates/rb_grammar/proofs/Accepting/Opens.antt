@@ -1,5 +1,6 @@
 -- How a derived part begins: with a token that the table has for it, or it has no tokens.
 use Rattle.std.proofs.Common.{◌≡◌, Bool, true, false, cond, Option, Some, None, ◌⊎◌, inl, inr, refl, ap, ◌∙◌}
+use Rattle.std.proofs.lemmas.Bool.{false≢true}
 use Rattle.std.specs.Option.{is_some}
 use Rattle.rb_base.specs.declared.edition.Edition.{Edition}
 use Rattle.rb_base.specs.declared.edition.Edition.TheVariants as editions
@@ -92,17 +93,17 @@ atom_is_no_minus (Some terminals.Minus) e = absurd cc
 atom_is_no_minus _ e = refl
 
 pub comparison_is_no_not : (first : Option Terminal) → is_some (start_comparison first) ≡ true → fits first terminals.Not ≡ false
-comparison_is_no_not (Some terminals.Not) e = absurd cc
+comparison_is_no_not (Some terminals.Not) e = absurd (false≢true e)
 comparison_is_no_not _ e = refl
 
 pub chain_is_no_quantifier : (first : Option Terminal) → is_some (start_disjunction first) ≡ true → quantifier first ≡ None
-chain_is_no_quantifier (Some terminals.Every) e = absurd cc
-chain_is_no_quantifier (Some terminals.Some) e = absurd cc
-chain_is_no_quantifier (Some terminals.Sum) e = absurd cc
+chain_is_no_quantifier (Some terminals.Every) e = absurd (false≢true e)
+chain_is_no_quantifier (Some terminals.Some) e = absurd (false≢true e)
+chain_is_no_quantifier (Some terminals.Sum) e = absurd (false≢true e)
 chain_is_no_quantifier _ e = refl
 
 pub expression_is_no_text : (first : Option Terminal) → is_some (start_expression first) ≡ true → fits first terminals.Text ≡ false
-expression_is_no_text (Some terminals.Text) e = absurd cc
+expression_is_no_text (Some terminals.Text) e = absurd (false≢true e)
 expression_is_no_text _ e = refl
 
 pub unmarked_is_no_edition : (first : Option Terminal) → is_some (start_unmarked editions.First first) ≡ true → fits first terminals.Edition ≡ false

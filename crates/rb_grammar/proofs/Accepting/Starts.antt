@@ -22,71 +22,71 @@ use Rattle.rb_grammar.specs.Table.{start_conversation, start_connections, start_
 use Rattle.rb_grammar.proofs.Accepting.Forms.{begin_none}
 
 pub no_channel : (first : Option Terminal) → fits first terminals.Channel ≡ false → start_channel first ≡ None
-no_channel (Some terminals.Channel) e = absurd cc
+no_channel (Some terminals.Channel) e = absurd (true≢false e)
 no_channel _ e = refl
 
 pub no_conversation : (first : Option Terminal) → fits first terminals.Conversation ≡ false → start_conversation first ≡ None
-no_conversation (Some terminals.Conversation) e = absurd cc
+no_conversation (Some terminals.Conversation) e = absurd (true≢false e)
 no_conversation _ e = refl
 
 pub no_declaration : (first : Option Terminal) → fits first terminals.Var ≡ false → start_declaration first ≡ None
-no_declaration (Some terminals.Var) e = absurd cc
+no_declaration (Some terminals.Var) e = absurd (true≢false e)
 no_declaration _ e = refl
 
 pub no_size : (first : Option Terminal) → fits first terminals.OpenBracket ≡ false → start_size first ≡ None
-no_size (Some terminals.OpenBracket) e = absurd cc
+no_size (Some terminals.OpenBracket) e = absurd (true≢false e)
 no_size _ e = refl
 
 pub no_block : (edition : Edition) (first : Option Terminal) → fits first terminals.OpenBrace ≡ false → start_block edition first ≡ None
-no_block edition (Some terminals.OpenBrace) e = absurd cc
+no_block edition (Some terminals.OpenBrace) e = absurd (true≢false e)
 no_block edition _ e = refl
 
 pub no_alternate : (edition : Edition) (first : Option Terminal) → fits first terminals.By ≡ false → start_alternate edition first ≡ None
-no_alternate edition (Some terminals.By) e = absurd cc
+no_alternate edition (Some terminals.By) e = absurd (true≢false e)
 no_alternate edition _ e = refl
 
 pub no_recovery : (edition : Edition) (first : Option Terminal) → fits first terminals.Ensure ≡ false → start_recovery edition first ≡ None
-no_recovery edition (Some terminals.Ensure) e = absurd cc
+no_recovery edition (Some terminals.Ensure) e = absurd (true≢false e)
 no_recovery edition _ e = refl
 
 pub no_procedure : (edition : Edition) (first : Option Terminal) → fits first terminals.Procedure ≡ false → start_procedure edition first ≡ None
-no_procedure edition (Some terminals.Procedure) e = absurd cc
+no_procedure edition (Some terminals.Procedure) e = absurd (true≢false e)
 no_procedure edition _ e = refl
 
 pub no_process : (edition : Edition) (first : Option Terminal) → fits first terminals.Process ≡ false → start_process edition first ≡ None
-no_process edition (Some terminals.Process) e = absurd cc
+no_process edition (Some terminals.Process) e = absurd (true≢false e)
 no_process edition _ e = refl
 
 pub no_unmarked : (edition : Edition) (first : Option Terminal) → fits first terminals.Program ≡ false → start_unmarked edition first ≡ None
-no_unmarked edition (Some terminals.Program) e = absurd cc
+no_unmarked edition (Some terminals.Program) e = absurd (true≢false e)
 no_unmarked edition _ e = refl
 
 pub no_place : (first : Option Terminal) → fits first terminals.Name ≡ false → start_place first ≡ None
-no_place (Some terminals.Name) e = absurd cc
+no_place (Some terminals.Name) e = absurd (true≢false e)
 no_place _ e = refl
 
 pub no_names : (first : Option Terminal) → fits first terminals.Name ≡ false → start_names first ≡ None
-no_names (Some terminals.Name) e = absurd cc
+no_names (Some terminals.Name) e = absurd (true≢false e)
 no_names _ e = refl
 
 pub no_more_names : (first : Option Terminal) → fits first terminals.Comma ≡ false → start_more_names first ≡ None
-no_more_names (Some terminals.Comma) e = absurd cc
+no_more_names (Some terminals.Comma) e = absurd (true≢false e)
 no_more_names _ e = refl
 
 pub no_subscript : (first : Option Terminal) → fits first terminals.OpenBracket ≡ false → start_subscript first ≡ None
-no_subscript (Some terminals.OpenBracket) e = absurd cc
+no_subscript (Some terminals.OpenBracket) e = absurd (true≢false e)
 no_subscript _ e = refl
 
 pub no_more_items : (first : Option Terminal) → fits first terminals.Comma ≡ false → start_more_items first ≡ None
-no_more_items (Some terminals.Comma) e = absurd cc
+no_more_items (Some terminals.Comma) e = absurd (true≢false e)
 no_more_items _ e = refl
 
 pub no_more_expressions : (first : Option Terminal) → fits first terminals.Comma ≡ false → start_more_expressions first ≡ None
-no_more_expressions (Some terminals.Comma) e = absurd cc
+no_more_expressions (Some terminals.Comma) e = absurd (true≢false e)
 no_more_expressions _ e = refl
 
 pub no_else : (edition : Edition) (first : Option Terminal) → fits first terminals.Else ≡ false → start_optional_else edition first ≡ None
-no_else edition (Some terminals.Else) e = absurd cc
+no_else edition (Some terminals.Else) e = absurd (true≢false e)
 no_else edition _ e = refl
 
 pub some_channel : (first : Option Terminal) → fits first terminals.Channel ≡ true → is_some (start_channel first) ≡ true
@@ -127,8 +127,8 @@ some_place (Some terminals.Name) e = refl
 some_place _ e = absurd (true≢false (sym e))
 
 pub no_number : (first : Option Terminal) → fits first terminals.Two ≡ false → fits first terminals.Number ≡ false → start_number first ≡ None
-no_number (Some terminals.Two) e f = absurd cc
-no_number (Some terminals.Number) e f = absurd cc
+no_number (Some terminals.Two) e f = absurd (true≢false e)
+no_number (Some terminals.Number) e f = absurd (true≢false f)
 no_number _ e f = refl
 
 pub no_declarations : (first : Option Terminal) → fits first terminals.Var ≡ false → start_declarations first ≡ None
@@ -146,8 +146,8 @@ no_parameters first e = ap (λ begun. begin begun nothing_after) (no_names first
 
 pub no_connections : (first : Option Terminal) → fits first terminals.Channel ≡ false →
     fits first terminals.Conversation ≡ false → start_connections first ≡ None
-no_connections (Some terminals.Channel) e f = absurd cc
-no_connections (Some terminals.Conversation) e f = absurd cc
+no_connections (Some terminals.Channel) e f = absurd (true≢false e)
+no_connections (Some terminals.Conversation) e f = absurd (true≢false f)
 no_connections _ e f = refl
 
 -- both editions have statements that begin alike

@@ -1,4 +1,5 @@
-use Rattle.std.proofs.Common.{◌≡◌, ◌-◌, ℕ, List, ◌∷◌, refl, reverse, take, length, ◌∙◌, ap, rules}
+use Rattle.std.proofs.lemmas.Grind.{common_steps}
+use Rattle.std.proofs.Common.{◌≡◌, ◌-◌, ℕ, List, ◌∷◌, refl, reverse, take, length, ◌∙◌, ap, rules, arith}
 use Rattle.rb_cache.specs.declared.entry.Mark.{Mark}
 use Rattle.rb_cache.specs.Merging.{innermost}
 use Rattle.rb_cache.proofs.Merges.{pop_marks, entries_within, accepted_all}
@@ -36,3 +37,6 @@ returns c =
       arena_room = search rules;
       stamps_room = search rules;
     }
+
+pub merge-requires-clause-first : goal.merge-requires-clause-first
+merge-requires-clause-first c = grind (arith, common_steps)

@@ -1,3 +1,4 @@
+use Rattle.std.proofs.lemmas.Grind.{common_steps}
 use Rattle.std.proofs.Common.{◌+◌, ◌<◌, ◌∷◌, List, ℕ, sym, ◌∙◌, ap, length, subst, arith, take, drop}
 use Rattle.std.specs.List.{AllByRecursion}
 use Rattle.rb_cache.specs.declared.entry.Entry.{Entry}
@@ -27,3 +28,6 @@ loop-i-preserved c =
           ∙ sym (ap (merge_all c.args.lower s) m.1)
           ∙ inv.rest;
     }
+
+pub returns-clause-merged : goal.returns-clause-merged
+returns-clause-merged c = grind (arith, common_steps)

@@ -69,3 +69,19 @@ returns-else-at-top-clause-regions g c =
           (arith, get_or_default st c.args.at 0 w.index.result.now (within h), w.index.ensures, w.if-index-top.false)
       | else-at-top-via-else-at-top w ↦ omega (arith, w.if-at-top.false, h)
     ])
+
+pub returns-then-is_empty-clause-regions : goal.returns-then-is_empty-clause-regions
+returns-then-is_empty-clause-regions g c = grind (arith, common_steps)
+
+pub index-requires : goal.index-requires
+index-requires g c =
+    let some : 0 < length c.args.marks.now = grind (arith, common_steps, c.if-is_empty.ensures, c.if-is_empty.false) in
+    let none : Mark = record { first = 0; height = 0 } in
+    let within = c.requires.within (below_last c.args.marks.now none c.args.at some c.if-at-top.true) in
+    omega (arith, within)
+
+pub note-requires-clause-within : goal.note-requires-clause-within
+note-requires-clause-within g c =
+    let some : 0 < length c.args.marks.now = grind (arith, common_steps, c.if-is_empty.ensures, c.if-is_empty.false) in
+    let none : Mark = record { first = 0; height = 0 } in
+    c.requires.within (below_last c.args.marks.now none c.args.at some c.if-at-top.true)

@@ -1,3 +1,4 @@
+use Rattle.std.proofs.lemmas.Grind.{common_steps}
 use Rattle.std.proofs.Common.{◌≡◌, ◌+◌, ◌≤◌, ◌++◌, ◌∷◌, [], List, ℕ, ℤ, sym, ◌∙◌, ap, length, map, subst, arith, w64, to_z, of_z, rules, take, drop, set, ◌<◌}
 use Rattle.std.proofs.lemmas.List.{length_push, take-take, take-append-le, take_all, length-set}
 use Rattle.std.proofs.lemmas.Int.{to_z-of_z}
@@ -75,3 +76,12 @@ loop-arena-preserved g c =
       limit = ap (λ (s : Store). s.limit) c.write.ensures.words ∙ inv.limit;
       ticks = omega (arith, c.write.ensures.ticks, inv.ticks, n);
     }
+
+pub loop-arena-init : goal.loop-arena-init
+loop-arena-init g c = grind (arith, common_steps)
+
+pub returns-clause-cells : goal.returns-clause-cells
+returns-clause-cells g c = grind (arith, common_steps)
+
+pub returns-clause-stamped : goal.returns-clause-stamped
+returns-clause-stamped g c = grind (arith, common_steps)

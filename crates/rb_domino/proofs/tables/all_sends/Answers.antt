@@ -25,6 +25,9 @@ loop-rest-init g c =
       work = grind (arith, common_steps);
     }
 
+pub index_mut-requires : goal.index_mut-requires
+index_mut-requires g c = grind (arith, common_steps)
+
 pub loop-rest-preserved : goal.loop-rest-preserved
 loop-rest-preserved g c =
     let some : 0 < length c.loop-rest.rest.now = omega arith in

@@ -8,18 +8,24 @@ use Rattle.rb_domino.proofs.AllTaken.{Taking, first_take, taking_all, taking_non
 use Rattle.rb_domino.proofs.tables.all_takes.Goals as goal
 
 pub loop-made-init : goal.loop-made-init
-loop-made-init g c = record { takes = c.in_ok-takes.ensures.items; work = omega arith }
+loop-made-init g c = record {
+  takes = c.in_ok-takes.ensures.items;
+  many = c.in_ok-takes.ensures.len;
+  room = c.in_ok-takes.ensures.capacity;
+  work = omega arith;
+}
+
+pub push_reserved-requires : goal.push_reserved-requires
+push_reserved-requires g c = omega (arith, c.loop-made.invariant.many, c.loop-made.invariant.room)
 
 pub loop-made-preserved : goal.loop-made-preserved
 loop-made-preserved g c = record {
-  takes = c.in_ok-push.ensures.items ∙ ap (λ (ts : List (Option ℕ)). ts ++ None ∷ []) c.loop-made.invariant.takes
+  takes = c.push_reserved.ensures.items ∙ ap (λ (ts : List (Option ℕ)). ts ++ None ∷ []) c.loop-made.invariant.takes
       ∙ replicate_more c.loop-made._made None;
+  many = omega (arith, c.push_reserved.ensures.len, c.loop-made.invariant.many);
+  room = omega (arith, c.push_reserved.ensures.capacity, c.loop-made.invariant.room);
   work = omega (arith, c.tick.ensures, c.loop-made.invariant.work);
 }
-
-pub returns-in_err-push-clause-work : goal.returns-in_err-push-clause-work
-returns-in_err-push-clause-work g c =
-    let same = ap (length {A = Message}) c.messages-messages.ensures in omega (arith, c.loop-made.invariant.work, same)
 
 pub overflow_add-at : goal.overflow_add-at
 overflow_add-at g c = omega (arith, c.loop-rest.invariant.taking.all, c.requires.whole.few_lines)

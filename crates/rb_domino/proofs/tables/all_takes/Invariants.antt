@@ -1,10 +1,12 @@
-use Rattle.std.proofs.Common.{◌≡◌, ◌+◌, ◌≤◌, None, length, replicate}
+use Rattle.std.proofs.Common.{◌≡◌, ◌+◌, ◌≤◌, None, length, replicate, vec_capacity, vec_len}
 use Rattle.rb_domino.proofs.AllTaken.{Taking}
 use Rattle.rb_domino.proofs.tables.all_takes.Given as goal
 
 abbrev pub invariant-loop-made : goal.invariant-loop-made
 invariant-loop-made g l = record {
   takes : l.takes.items ≡ replicate l._made None;
+  many : vec_len l.takes ≡ l._made;
+  room : l.messages ≤ vec_capacity l.takes;
   work : l.steps ≤ l.fn.steps + l._made;
 }
 

@@ -1,4 +1,4 @@
-use Rattle.std.proofs.Common.{refl}
+use Rattle.std.proofs.Common.{refl, arith}
 use Rattle.rb_grammar.proofs.Reaching.{by_terminal, complete, exit_first, exit_missed, starts}
 use Rattle.rb_grammar.proofs.Receipts.{no_other_alternate}
 use Rattle.rb_grammar.specs.Parts.{Part}
@@ -19,3 +19,6 @@ returns-in_err-take-2-clause-err c =
 pub returns-clause-ok : goal.returns-clause-ok
 returns-clause-ok c =
     λ edition. complete (by_terminal (starts _ refl c.in_ok-take.ensures.ok) c.in_ok-take-2.ensures.ok)
+
+pub returns-clause-shorter : goal.returns-clause-shorter
+returns-clause-shorter c = omega (arith, c.in_ok-take.ensures.shorter, c.in_ok-take-2.ensures.shorter)

@@ -1,6 +1,7 @@
+use Rattle.std.proofs.lemmas.Result.{IfOk-weaker}
 use Rattle.std.proofs.Common.{refl, sym, pos}
 use Rattle.rb_grammar.proofs.Accepting.Complete.{number_read}
-use Rattle.rb_grammar.proofs.Reaching.{complete, exit_first, exit_sure, last_start, same_value, starts}
+use Rattle.rb_grammar.proofs.Reaching.{complete, exit_sure, handed_first, last_start, same_value, starts}
 use Rattle.rb_grammar.proofs.Accepting.Starts.{no_number}
 use Rattle.rb_grammar.proofs.Takes.{two_is}
 use Rattle.rb_grammar.specs.Parts.{Part}
@@ -16,11 +17,13 @@ pub returns-in_ok-token-clause-ok : goal.returns-in_ok-token-clause-ok
 returns-in_ok-token-clause-ok c =
     same_value (two_is (lexeme_of c.in_ok-token.token) (c.in_ok-token.ensures.ok).is) (complete (starts _ refl c.in_ok-token.ensures.ok))
 
-pub returns-in_err-number-clause-err : goal.returns-in_err-number-clause-err
-returns-in_err-number-clause-err c =
-    exit_first Part.Number _ refl (no_number _ (sym c.if-stands_at.ensures)) refl c.from_residual-in_err-number.result
-    c.from_residual-in_err-number.ensures.1 refl c.in_err-number.ensures.err
+pub returns-else-stands_at-clause-ok : goal.returns-else-stands_at-clause-ok
+returns-else-stands_at-clause-ok c =
+    IfOk-weaker c.take_number.result _ _ (λ _ taken. number_read taken (int_eq taken.value (pos 2)) refl) c.take_number.ensures.ok
 
-pub returns-in_ok-number-clause-ok : goal.returns-in_ok-number-clause-ok
-returns-in_ok-number-clause-ok c =
-    number_read c.in_ok-number.ensures.ok (int_eq (c.in_ok-number.ensures.ok).value (pos 2)) refl
+pub returns-else-stands_at-clause-err : goal.returns-else-stands_at-clause-err
+returns-else-stands_at-clause-err c =
+    handed_first Part.Number _ _ _ _ refl (no_number _ (sym c.if-stands_at.ensures)) refl c.take_number.result refl c.take_number.ensures.err
+
+pub returns-in_ok-token-clause-shorter : goal.returns-in_ok-token-clause-shorter
+returns-in_ok-token-clause-shorter c = c.in_ok-token.ensures.shorter

@@ -1,3 +1,4 @@
+use Rattle.std.proofs.lemmas.Grind.{common_steps}
 use Rattle.std.proofs.Common.{◌∙◌, arith, length-take, length-drop}
 use Rattle.rb_lex.proofs.Choosing.{text_on}
 use Rattle.rb_lex.proofs.texts.text_cut.Goals as goal
@@ -10,3 +11,9 @@ loop-rest-preserved c = (
   simp (length-take, length-drop) (omega (arith, c.loop-rest.invariant.1)),
   omega arith,
 )
+
+pub returns-clause-value : goal.returns-clause-value
+returns-clause-value c = grind (arith, common_steps)
+
+pub returns-then-passed-ge-LONGEST_TEXT-clause-within : goal.returns-then-passed-ge-LONGEST_TEXT-clause-within
+returns-then-passed-ge-LONGEST_TEXT-clause-within c = grind (arith, common_steps)

@@ -1,3 +1,4 @@
+use Rattle.std.proofs.lemmas.Grind.{common_steps}
 use Rattle.std.proofs.Common.{◌≡◌, ℕ, ◌≤◌, ◌<◌, Bool, true, false, cond, List, length, take, take_while, nat_lt, ap, sym, ◌∙◌, arith}
 use Rattle.std.specs.List.{prefix_len}
 use Rattle.std.proofs.lemmas.Bool.{le-ltb, lt-ltb}
@@ -61,3 +62,6 @@ returns-then-is_reserved-clause-within c =
 pub returns-else-is_reserved-clause-within : goal.returns-else-is_reserved-clause-within
 returns-else-is_reserved-clause-within c =
     omega (arith, c.name_len-size.ensures, prefix_len-le-length is_name_byte c.args.bytes.now)
+
+pub slice_bounds-is_reserved-end : goal.slice_bounds-is_reserved-end
+slice_bounds-is_reserved-end c = grind (arith, common_steps)

@@ -4,7 +4,5 @@ pub returns : goal.returns
 returns g c =
     rw (
       ← c.format.ensures.text,
-      ← c.as_bytes-turn.ensures.value,
-      ← c.format-2.ensures.text,
       ← c.as_bytes-alternate.ensures.value,
-    ) c.put_line.ensures
+    ) c.put_changed.ensures

@@ -1,3 +1,4 @@
+use Rattle.std.proofs.lemmas.Grind.{common_steps}
 use Rattle.std.proofs.Common.{◌≡◌, ◌≤◌, ◌-◌, ℕ, true, cond, List, [], ◌∷◌, length, drop, take, get_or, ap, sym, ◌∙◌, arith, length-take, length-drop}
 use Rattle.std.proofs.Math.Seq.{take-length}
 use Rattle.rb_sched.specs.Schedule.{is_space, words_from}
@@ -17,3 +18,9 @@ loop-rest-preserved c = record {
   within = simp (length-take, length-drop) (omega arith);
   read = c.loop-rest.invariant.read ∙ space-passed c.loop-rest.rest.now c.in-len1-up.len_at_least c.if-not-is_space.ensures;
 }
+
+pub returns-then-not-is_space : goal.returns-then-not-is_space
+returns-then-not-is_space c = grind (arith, common_steps)
+
+pub returns : goal.returns
+returns c = grind (arith, common_steps)

@@ -11,8 +11,15 @@ returns-in_err-put-clause-text g c =
     (spaced (map signed_decimal (take c.args.size (drop c.args.at (belonging (g.M.Final.words c.args.end.now) c.args.p))))
     ++ 10 ∷ []) _ _ _ _ _ c.from_residual.result c.from_residual.ensures.0 c.in_err-put.ensures
 
+pub returns-in_err-put_each_word-clause-text : goal.returns-in_err-put_each_word-clause-text
+returns-in_err-put_each_word-clause-text g c =
+    let line = spaced (map signed_decimal (take c.args.size (drop c.args.at (belonging (g.M.Final.words c.args.end.now) c.args.p)))) in
+    let stop = c.from_residual-in_err-put_each_word in
+    puts_both (codes " =") (line ++ 10 ∷ []) _ _ _ _ _ _ _ _ c.in_ok-put.ensures
+    (puts_stopped_at line (10 ∷ []) _ _ _ _ _ stop.result stop.ensures.0 c.in_err-put_each_word.ensures.text)
+
 pub returns-clause-text : goal.returns-clause-text
 returns-clause-text g c =
-    puts_both (codes " =")
-    (spaced (map signed_decimal (take c.args.size (drop c.args.at (belonging (g.M.Final.words c.args.end.now) c.args.p))))
-    ++ 10 ∷ []) _ _ _ _ _ _ _ _ c.in_ok-put.ensures c.put_words_line.ensures.text
+    let line = spaced (map signed_decimal (take c.args.size (drop c.args.at (belonging (g.M.Final.words c.args.end.now) c.args.p)))) in
+    puts_both (codes " =") (line ++ 10 ∷ []) _ _ _ _ _ _ _ _ c.in_ok-put.ensures
+    (puts_both line (10 ∷ []) _ _ _ _ _ _ _ _ c.in_ok-put_each_word.ensures.text c.put-2.ensures)

@@ -1,3 +1,4 @@
+use Rattle.std.proofs.lemmas.Grind.{common_steps}
 use Rattle.std.proofs.Common.{◌≡◌, ℕ, ◌+◌, ◌<◌, length, drop, ap, ◌∙◌, arith}
 use Rattle.std.specs.List.{flat_map}
 use Rattle.rb_base.specs.Lines.{belonging}
@@ -53,3 +54,9 @@ returns-clause-none_waits g c =
     let all : c.loop-process.process ≡ length first =
     omega (arith, c.requires.fit, c.len-processes.ensures, c.loop-process-test.false, c.loop-process.auto.process-end) in
     c.loop-process.invariant.1 ∙ ap (λ (n : ℕ). cleared n first) all ∙ cleared_all first
+
+pub returns-clause-text : goal.returns-clause-text
+returns-clause-text g c = grind (arith, common_steps)
+
+pub loop-process-init : goal.loop-process-init
+loop-process-init g c = grind (arith, common_steps)

@@ -1,3 +1,4 @@
+use Rattle.std.proofs.lemmas.Grind.{common_steps}
 use Rattle.std.proofs.Common.{◌≡◌, ℕ, List, ◌++◌, length, drop, Some, refl, sym, ap, ◌∙◌, rules, arith}
 use Rattle.std.specs.List.{flat_map}
 use Rattle.rb_base.specs.Lines.{belonging, next_line}
@@ -51,3 +52,6 @@ returns-clause-none_waits g c =
     all_taken (g.M.Lines.waiting c.args.lines.now) (g.M.Lines.waiting c.lines.lines)
     (g.M.Lines.waiting c.released.follows.lender-at-none) c.args.process
     c.lines.invariant.1 c.lines.invariant.2 c.released.follows.holds-at-none.0 (search rules)
+
+pub returns-clause-rest : goal.returns-clause-rest
+returns-clause-rest g c = grind (arith, common_steps)

@@ -1,4 +1,5 @@
-use Rattle.std.proofs.Common.{◌++◌, true, false, ap}
+use Rattle.std.proofs.lemmas.Grind.{common_steps}
+use Rattle.std.proofs.Common.{◌++◌, true, false, ap, arith}
 use Rattle.std.specs.List.{flat_map}
 use Rattle.rb_outside.proofs.Puts.{puts_both, puts_same, puts_stopped_at}
 use Rattle.rb_world.specs.Text.{out_lines}
@@ -43,3 +44,6 @@ returns-clause-text g c =
     (puts_same _ _ _ _ _ _ _ (ap (flat_map (event_if names t false)) c.deref.ensures.0) c.in_ok-write_events.ensures)
     (puts_both (out_lines names t 0 waiting) (flat_map (event_if names t true) events) _ _ _ _ _ _ _ _ c.in_ok-write_all_released.ensures.text
     (puts_same _ _ _ _ _ _ _ (ap (flat_map (event_if names t true)) c.deref-2.ensures.0) c.write_events-2.ensures)))
+
+pub returns-clause-none_waits : goal.returns-clause-none_waits
+returns-clause-none_waits g c = grind (arith, common_steps)

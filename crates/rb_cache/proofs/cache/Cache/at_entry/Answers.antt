@@ -1,3 +1,4 @@
+use Rattle.std.proofs.lemmas.Grind.{common_steps}
 use Rattle.std.proofs.Common.{◌≡◌, ◌<◌, ℕ, ℤ, pos, List, [], Option, Some, None, map, reverse, drop, length, get_or, w64, rules, sym, ◌∙◌, ap, subst, arith}
 use Rattle.std.proofs.lemmas.Int.{to_z-of_z}
 use Rattle.rb_cache.specs.declared.entry.Entry.{Entry}
@@ -68,3 +69,6 @@ returns-in-None-clause-word g c =
     let r : None ≡ first_saved c.args.at (map saved_of (drop first i.arena.items)) =
     c.in-None.ensures ∙ ap (λ (xs : List Entry). first_saved c.args.at (map saved_of (drop first xs))) c.deref-2.ensures.value in
     to_z-of_z w64 c.read.result (search rules) ∙ c.read.ensures.word ∙ ap (λ (o : Option ℤ). or_value o (get_or ws c.args.at (pos 0))) r ∙ sym e.word
+
+pub first_value-requires-clause-before : goal.first_value-requires-clause-before
+first_value-requires-clause-before g c = grind (arith, common_steps)

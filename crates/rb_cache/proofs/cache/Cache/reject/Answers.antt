@@ -1,3 +1,4 @@
+use Rattle.std.proofs.lemmas.Grind.{common_steps}
 use Rattle.std.proofs.Common.{◌≡◌, ℕ, ℤ, List, ◌∙◌, ap, length, map, subst, arith, rules, take, drop}
 use Rattle.rb_cell.specs.Store.{Store}
 use Rattle.rb_cache.specs.declared.entry.Entry.{Entry}
@@ -79,3 +80,15 @@ returns g c =
       limits = search rules;
       ticks = omega (arith, c.undo.ensures.ticks, h.touched);
     }
+
+pub undo-requires-clause-first : goal.undo-requires-clause-first
+undo-requires-clause-first g c = grind (arith, common_steps)
+
+pub index-top-requires : goal.index-top-requires
+index-top-requires g c = grind (arith, common_steps)
+
+pub overflow_sub-len : goal.overflow_sub-len
+overflow_sub-len g c = grind (arith, common_steps)
+
+pub undo-requires-clause-stamped : goal.undo-requires-clause-stamped
+undo-requires-clause-stamped g c = grind (arith, common_steps)

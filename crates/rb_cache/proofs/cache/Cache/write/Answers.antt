@@ -1,4 +1,6 @@
-use Rattle.std.proofs.Common.{◌≡◌, ◌≤◌, ℕ, ℤ, List, sym, ◌∙◌, ap, map, reverse, length, subst, pos, w64, to_z, of_z, get_or, set, rules}
+use Rattle.rb_cache.proofs.Reach.{Holds-sized}
+use Rattle.std.proofs.lemmas.Grind.{common_steps}
+use Rattle.std.proofs.Common.{◌≡◌, ◌≤◌, ℕ, ℤ, List, sym, ◌∙◌, ap, map, reverse, length, subst, pos, w64, to_z, of_z, get_or, set, rules, arith}
 use Rattle.std.proofs.lemmas.List.{length-set}
 use Rattle.std.proofs.lemmas.Int.{to_z-of_z}
 use Rattle.std.specs.List.{AllByRecursion}
@@ -7,7 +9,7 @@ use Rattle.rb_cache.specs.declared.entry.Mark.{Mark}
 use Rattle.rb_cache.specs.Undo.{Region}
 use Rattle.rb_cache.specs.Copies.{RecoveryCache, level_of, restored}
 use Rattle.rb_cache.specs.Regions.{recorded}
-use Rattle.rb_cache.specs.Arena.{regions_of}
+use Rattle.rb_cache.specs.Arena.{regions_of, Holds}
 use Rattle.rb_cache.proofs.Copies.{restored-write}
 use Rattle.rb_cache.proofs.Views.{levels-recorded}
 use Rattle.rb_cache.proofs.Seen.{regions_seen, fits-recorded}
@@ -41,3 +43,30 @@ returns g c =
       limits = search rules;
       ticks = search rules;
     }
+
+pub save_prior-requires-clause-room : goal.save_prior-requires-clause-room
+save_prior-requires-clause-room g c = grind (arith, common_steps)
+
+pub invariant_of-self : goal.invariant_of-self
+invariant_of-self g c =
+    let i = c.self.inside in
+    let st = c.save_prior.new.stamps.items in
+    let log = c.save_prior.new.arena.items in
+    let n = length i.stamps.items in
+    let h : Holds n (reverse i.marks.items) st log =
+    subst (λ (ms : List Mark). Holds n (reverse ms) st log) c.deref.ensures.value c.save_prior.ensures.holds in
+    record {
+      few = c.self.invariant.few;
+      marks_room = c.self.invariant.marks_room;
+      arena_room = omega (arith, c.save_prior.ensures.room, c.self.invariant.arena_room);
+      stamps_room = omega (arith, c.save_prior.ensures.stamps_room, c.self.invariant.stamps_room);
+      few_stamps = omega (arith, h.size, c.self.invariant.few_stamps);
+      reach = omega (arith, h.size, c.self.invariant.reach);
+      holds = Holds-sized n (reverse i.marks.items) st log h;
+    }
+
+pub save_prior-requires-clause-within : goal.save_prior-requires-clause-within
+save_prior-requires-clause-within g c = grind (arith, common_steps)
+
+pub save_prior-requires-clause-holds : goal.save_prior-requires-clause-holds
+save_prior-requires-clause-holds g c = grind (arith, common_steps)

@@ -25,7 +25,16 @@ line_added vectors i vector states state line added within is same latest_is so_
     ∙ ap (λ k. take k (line_of (stacks vectors))) (sym (add-one i))
 
 pub loop-states-init : goal.loop-states-init
-loop-states-init g c = record { line = c.in_ok-line.ensures.items; work = omega arith }
+loop-states-init g c = record {
+  line = c.in_ok-line.ensures.items;
+  many = c.in_ok-line.ensures.len;
+  room = omega (arith, c.in_ok-line.ensures.capacity);
+  work = omega arith;
+}
+
+pub push_reserved-requires : goal.push_reserved-requires
+push_reserved-requires g c =
+    omega (arith, c.loop-states.invariant.many, c.loop-states.invariant.room, c.deref-states-items.ensures.len)
 
 pub loop-states-preserved : goal.loop-states-preserved
 loop-states-preserved g c =
@@ -35,8 +44,10 @@ loop-states-preserved g c =
     let within : i < length c.args.self.now.states.items = omega (arith, ap length same) in
     let is : here ≡ slice_index_or c.args.self.now.states.items i here = c.states-item.is ∙ ap (λ vs. slice_index_or vs i here) same in
     record {
-      line = line_added c.args.self.now.states.items i here c.as_slice.result.now c.latest.result c.loop-states.line.items c.push.new.self.items
-          within is c.as_slice.ensures.value c.latest.ensures c.loop-states.invariant.line c.in_ok-push.ensures.items;
+      line = line_added c.args.self.now.states.items i here c.as_slice.result.now c.latest.result c.loop-states.line.items c.push_reserved.new.self.items
+          within is c.as_slice.ensures.value c.latest.ensures c.loop-states.invariant.line c.push_reserved.ensures.items;
+      many = omega (arith, c.push_reserved.ensures.len, c.loop-states.invariant.many);
+      room = omega (arith, c.push_reserved.ensures.capacity, c.loop-states.invariant.room);
       work = omega (arith, c.tick.ensures, c.loop-states.invariant.work);
     }
 
@@ -51,9 +62,6 @@ returns-clause-line g c =
       c.args.self.now.states.ok.0,
     ) in
     c.loop-states.invariant.line ∙ take_all _ _ whole
-
-pub returns-in_err-push-clause-work : goal.returns-in_err-push-clause-work
-returns-in_err-push-clause-work g c = omega (arith, c.loop-states.invariant.work, c.deref-states-items.ensures.len)
 
 pub returns-clause-work : goal.returns-clause-work
 returns-clause-work g c = omega (arith, c.loop-states.invariant.work, c.deref-states-items.ensures.len)

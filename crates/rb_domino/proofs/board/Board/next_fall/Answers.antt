@@ -140,3 +140,12 @@ loop-taken-smaller g c =
     let fewer : btree_set_len c.remove.new.self + 1 ≡ btree_set_len pending =
     subst (λ (b : Bool). btree_set_len c.remove.new.self + (if b then 1 else 0) ≡ btree_set_len pending) there c.remove.ensures.len in
     omega (arith, fewer)
+
+pub bounds-lines-taken : goal.bounds-lines-taken
+bounds-lines-taken g c = grind (arith, common_steps)
+
+pub bounds-messages-m : goal.bounds-messages-m
+bounds-messages-m g c = grind (arith, common_steps)
+
+pub bounds-messages-m-in-Take : goal.bounds-messages-m-in-Take
+bounds-messages-m-in-Take g c = grind (arith, common_steps)

@@ -1,4 +1,4 @@
-use Rattle.std.proofs.Common.{◌≡◌, ℕ, List, ◌∷◌, ◌++◌, [], false, None, Ok, Err, cond, length, refl, ap, sym, ◌∙◌}
+use Rattle.std.proofs.Common.{◌≡◌, ℕ, List, ◌∷◌, ◌++◌, [], false, None, Ok, Err, cond, length, ap, sym, ◌∙◌}
 use Rattle.std.specs.Option.{is_some}
 use Rattle.rb_base.specs.declared.fault.FaultName.TheVariants.{H3}
 use Rattle.rb_domino.specs.declared.line.Line.TheVariants.{Begin}

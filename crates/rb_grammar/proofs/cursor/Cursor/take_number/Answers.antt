@@ -6,3 +6,6 @@ unreachable-requires c =
     let token = c.in_ok-token.token in
     let number = number_kind token.kind token.text.now c.in_ok-token.ensures.ok.is in
     c.in_default.not-Number number.0 number.1
+
+pub returns-clause-shorter : goal.returns-clause-shorter
+returns-clause-shorter c = c.in_ok-token.ensures.shorter

@@ -1,4 +1,4 @@
-use Rattle.std.proofs.Common.{refl}
+use Rattle.std.proofs.Common.{refl, arith}
 use Rattle.rb_grammar.proofs.Reaching.{exit}
 use Rattle.rb_grammar.specs.Reading.{last_first, last_second, misses_first, misses_second}
 use Rattle.rb_grammar.proofs.cursor.Cursor.take_two.Goals as goal
@@ -22,3 +22,6 @@ returns-clause-ok c =
       takes = c.in_ok-take.ensures.ok;
       behind = c.in_ok-take-2.ensures.ok;
     }
+
+pub returns-clause-shorter : goal.returns-clause-shorter
+returns-clause-shorter c = omega (arith, c.in_ok-take.ensures.shorter, c.in_ok-take-2.ensures.shorter)
