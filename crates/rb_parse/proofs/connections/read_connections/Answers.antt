@@ -5,7 +5,6 @@ use Rattle.rb_grammar.proofs.Reaching.{begins_here, by_part, exit_memory, exit_w
 use Rattle.rb_grammar.proofs.Accepting.Starts.{no_connections, some_channel, some_conversation}
 use Rattle.rb_grammar.specs.Parts.{Part}
 use Rattle.rb_grammar.specs.Table.{channels_after, conversations_after}
-use Rattle.rb_parse.proofs.Shorter.{fewer_still}
 use Rattle.rb_parse.proofs.connections.read_connections.Goals as goal
 
 pub connections-init : goal.connections-init
@@ -81,3 +80,9 @@ returns-in_err-conversation-clause-ending c =
 
 pub returns-in_err-append-2-clause-ending : goal.returns-in_err-append-2-clause-ending
 returns-in_err-append-2-clause-ending c = c.in_ok-conversation.ensures.ending ∙ c.connections.invariant.ending
+
+pub connections-smaller : goal.connections-smaller
+connections-smaller c = c.in_ok-conversation.ensures.shorter
+
+pub connections-smaller-in-Continue-branch-2 : goal.connections-smaller-in-Continue-branch-2
+connections-smaller-in-Continue-branch-2 c = c.in_ok-channel.ensures.shorter

@@ -4,7 +4,6 @@ use Rattle.rb_grammar.specs.StatementTable.{declarations_after}
 use Rattle.rb_grammar.proofs.Accepting.Starts.{some_declaration, no_declarations}
 use Rattle.rb_grammar.proofs.Pushing.{vars_init, vars_step, vars_end}
 use Rattle.rb_grammar.proofs.Reaching.{begins_here, by_part, exit_memory, exit_within, within}
-use Rattle.rb_parse.proofs.Shorter.{fewer_still}
 use Rattle.rb_parse.proofs.declarations.read_declarations.Goals as goal
 
 pub vars-init : goal.vars-init

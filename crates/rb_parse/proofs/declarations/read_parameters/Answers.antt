@@ -5,6 +5,7 @@ use Rattle.rb_grammar.specs.ExpressionTable.{nothing_after}
 use Rattle.rb_grammar.specs.Parts.{Part}
 use Rattle.rb_syntax.specs.Plain.{identifier}
 use Rattle.rb_parse.proofs.Handed.{last_read, last_stopped}
+use Rattle.rb_parse.proofs.Shorter.{call_weaker}
 use Rattle.rb_parse.proofs.declarations.read_parameters.Goals as goal
 
 pub returns-then-stands_at-clause-err : goal.returns-then-stands_at-clause-err
@@ -20,3 +21,6 @@ returns-then-stands_at-clause-ok c =
 pub returns-else-stands_at-clause-ok : goal.returns-else-stands_at-clause-ok
 returns-else-stands_at-clause-ok c =
     same_value (ap (map identifier) (sym c.new.ensures.items)) (passes [] _ (no_parameters _ (sym c.if-stands_at.ensures)) refl)
+
+pub returns-then-stands_at-clause-shorter : goal.returns-then-stands_at-clause-shorter
+returns-then-stands_at-clause-shorter c = call_weaker _ _ c.read_names.result c.read_names.ensures.shorter

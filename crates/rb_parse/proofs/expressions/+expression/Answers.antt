@@ -18,7 +18,7 @@ use Rattle.rb_syntax.specs.Tree.{Element, Minus, Negation, NoLink, Quantificatio
 use Rattle.rb_grammar.specs.declared.level.Level.TheVariants as levels
 use Rattle.rb_parse.proofs.Closing.{last_closed, last_held, last_missed}
 use Rattle.rb_parse.proofs.Handed.{last_made, last_read, last_stopped, last_unmade}
-use Rattle.rb_parse.proofs.Shorter.{and_fewer, at_most, call_fewer, call_takes_none, fewer_still, no_more}
+use Rattle.rb_parse.proofs.Shorter.{and_fewer, at_most, call_fewer, call_takes_none, call_weaker, falls_40, no_more}
 use Rattle.rb_parse.proofs.expressions.+expression.Goals as goal
 
 pub read_expression-returns-in-None-clause-err : goal.read_expression-returns-in-None-clause-err
@@ -629,3 +629,36 @@ read_subscript-returns-in_ok-held-clause-ending t c =
 pub read_subscript-returns-in_ok-held-clause-shorter : goal.read_subscript-returns-in_ok-held-clause-shorter
 read_subscript-returns-in_ok-held-clause-shorter t c =
     at_most (and_fewer c.in_ok-index.ensures.shorter (and_fewer c.in_ok-value.ensures.shorter c.in_ok-take.ensures.shorter))
+
+pub read_compared-returns-in-Some-clause-shorter : goal.read_compared-returns-in-Some-clause-shorter
+read_compared-returns-in-Some-clause-shorter t c = call_weaker _ _ c.read_right.result c.read_right.ensures.shorter
+
+pub read_place-read_subscript-requires : goal.read_place-read_subscript-requires
+read_place-read_subscript-requires t c = (falls_40 16 17 c.decreases (omega arith) c.in_ok-name.ensures.shorter, tt)
+
+pub read_factor-read_atom-requires : goal.read_factor-read_atom-requires
+read_factor-read_atom-requires t c = (falls_40 19 20 c.decreases (omega arith) c.in_ok-take.ensures.shorter, tt)
+
+pub read_negation-read_comparison-requires : goal.read_negation-read_comparison-requires
+read_negation-read_comparison-requires t c = (falls_40 25 26 c.decreases (omega arith) c.in_ok-take.ensures.shorter, tt)
+
+pub read_quantified-read_boxed-requires : goal.read_quantified-read_boxed-requires
+read_quantified-read_boxed-requires t c = (falls_40 31 31 c.decreases (omega arith) (and_fewer c.in_ok-take.ensures.shorter (and_fewer c.in_ok-name.ensures.shorter c.in_ok-token.ensures.shorter)), tt)
+
+pub read_quantified-read_boxed-requires-2 : goal.read_quantified-read_boxed-requires-2
+read_quantified-read_boxed-requires-2 t c = (falls_40 31 31 c.decreases (omega arith) (and_fewer c.in_ok-low.ensures.shorter (and_fewer c.in_ok-least.ensures.shorter (and_fewer c.in_ok-take.ensures.shorter (and_fewer c.in_ok-name.ensures.shorter c.in_ok-token.ensures.shorter)))), tt)
+
+pub read_quantified-read_boxed-requires-3 : goal.read_quantified-read_boxed-requires-3
+read_quantified-read_boxed-requires-3 t c = (falls_40 31 31 c.decreases (omega arith) (and_fewer c.in_ok-high.ensures.shorter (and_fewer c.in_ok-most.ensures.shorter (and_fewer c.in_ok-low.ensures.shorter (and_fewer c.in_ok-least.ensures.shorter (and_fewer c.in_ok-take.ensures.shorter (and_fewer c.in_ok-name.ensures.shorter c.in_ok-token.ensures.shorter)))))), tt)
+
+pub read_subscript-read_expression-requires : goal.read_subscript-read_expression-requires
+read_subscript-read_expression-requires t c = (falls_40 32 16 c.decreases (omega arith) c.in_ok-take.ensures.shorter, tt)
+
+pub read_brackets-read_expression-requires : goal.read_brackets-read_expression-requires
+read_brackets-read_expression-requires t c = (falls_40 32 18 c.decreases (omega arith) c.in_ok-take.ensures.shorter, tt)
+
+pub read_prior-read_place-requires : goal.read_prior-read_place-requires
+read_prior-read_place-requires t c = (falls_40 17 18 c.decreases (omega arith) c.in_ok-token.ensures.shorter, tt)
+
+pub read_comparison-read_compared-requires : goal.read_comparison-read_compared-requires
+read_comparison-read_compared-requires t c = (falls_40 31 25 c.decreases (omega arith) c.in_ok-left.ensures.shorter, tt)

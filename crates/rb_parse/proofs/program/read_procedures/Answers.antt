@@ -4,7 +4,6 @@ use Rattle.rb_grammar.proofs.Reaching.{begins_here, by_part, exit_memory, exit_w
 use Rattle.rb_grammar.proofs.Accepting.Starts.{no_procedures, some_procedure}
 use Rattle.rb_grammar.specs.Parts.{Part}
 use Rattle.rb_grammar.specs.Table.{procedures_after}
-use Rattle.rb_parse.proofs.Shorter.{fewer_still}
 use Rattle.rb_parse.proofs.program.read_procedures.Goals as goal
 
 pub procedures-init : goal.procedures-init

@@ -7,6 +7,7 @@ use Rattle.rb_grammar.specs.StatementTable.{expressions_after}
 use Rattle.rb_syntax.specs.Plain.{expression}
 use Rattle.std.specs.Option.{is_some}
 use Rattle.rb_parse.proofs.Handed.{last_read, last_stopped}
+use Rattle.rb_parse.proofs.Shorter.{call_weaker}
 use Rattle.rb_parse.proofs.simple_statements.read_arguments.Goals as goal
 
 pub returns-then-begins_expression-clause-err : goal.returns-then-begins_expression-clause-err
@@ -28,3 +29,6 @@ returns-else-begins_expression-clause-ok c =
     same_value (ap (map expression) (sym c.new.ensures.items))
     (passes [] _ (begin_none _ nothing_after (begin_still _ expressions_after
     (ap (λ first. is_some (start_expression first)) (sym c.look.ensures) ∙ sym c.if-begins_expression.ensures))) refl)
+
+pub returns-then-begins_expression-clause-shorter : goal.returns-then-begins_expression-clause-shorter
+returns-then-begins_expression-clause-shorter c = call_weaker _ _ c.read_expressions.result c.read_expressions.ensures.shorter

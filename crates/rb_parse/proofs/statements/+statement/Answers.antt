@@ -18,7 +18,7 @@ use Rattle.std.specs.Option.{is_some}
 use Rattle.rb_base.specs.declared.edition.Edition.TheVariants as editions
 use Rattle.rb_parse.proofs.Closing.{last_closed, last_missed}
 use Rattle.rb_parse.proofs.Lists.{alternate_first, alternate_read}
-use Rattle.rb_parse.proofs.Shorter.{and_fewer, at_most, call_fewer, fewer_still, no_more}
+use Rattle.rb_parse.proofs.Shorter.{and_fewer, at_most, call_fewer, falls_32, fewer_still, no_more}
 use Rattle.rb_parse.proofs.statements.+statement.Goals as goal
 
 pub read_statements-statements-init : goal.read_statements-statements-init
@@ -548,3 +548,120 @@ read_alternate-returns-clause-ending t c =
 pub read_alternate-returns-clause-shorter : goal.read_alternate-returns-clause-shorter
 read_alternate-returns-clause-shorter t c =
     call_fewer _ _ c.closed.result c.closed.ensures.shorter (and_fewer c.in_ok-block.ensures.shorter c.in_ok-take.ensures.shorter)
+
+pub read_statement-returns-then-stands_at-clause-ok : goal.read_statement-returns-then-stands_at-clause-ok
+read_statement-returns-then-stands_at-clause-ok t c = c.read_receive.ensures.ok
+
+pub read_statement-returns-then-stands_at-clause-err : goal.read_statement-returns-then-stands_at-clause-err
+read_statement-returns-then-stands_at-clause-err t c = c.read_receive.ensures.err
+
+pub read_statement-returns-then-stands_at-clause-ending : goal.read_statement-returns-then-stands_at-clause-ending
+read_statement-returns-then-stands_at-clause-ending t c = c.read_receive.ensures.ending
+
+pub read_statement-returns-then-stands_at-clause-shorter : goal.read_statement-returns-then-stands_at-clause-shorter
+read_statement-returns-then-stands_at-clause-shorter t c = c.read_receive.ensures.shorter
+
+pub read_statement-returns-then-stands_at-2-clause-ok : goal.read_statement-returns-then-stands_at-2-clause-ok
+read_statement-returns-then-stands_at-2-clause-ok t c = c.read_if.ensures.ok
+
+pub read_statement-returns-then-stands_at-2-clause-err : goal.read_statement-returns-then-stands_at-2-clause-err
+read_statement-returns-then-stands_at-2-clause-err t c = c.read_if.ensures.err
+
+pub read_statement-returns-then-stands_at-2-clause-ending : goal.read_statement-returns-then-stands_at-2-clause-ending
+read_statement-returns-then-stands_at-2-clause-ending t c = c.read_if.ensures.ending
+
+pub read_statement-returns-then-stands_at-2-clause-shorter : goal.read_statement-returns-then-stands_at-2-clause-shorter
+read_statement-returns-then-stands_at-2-clause-shorter t c = c.read_if.ensures.shorter
+
+pub read_statement-returns-then-stands_at-3-clause-ok : goal.read_statement-returns-then-stands_at-3-clause-ok
+read_statement-returns-then-stands_at-3-clause-ok t c = c.read_while.ensures.ok
+
+pub read_statement-returns-then-stands_at-3-clause-err : goal.read_statement-returns-then-stands_at-3-clause-err
+read_statement-returns-then-stands_at-3-clause-err t c = c.read_while.ensures.err
+
+pub read_statement-returns-then-stands_at-3-clause-ending : goal.read_statement-returns-then-stands_at-3-clause-ending
+read_statement-returns-then-stands_at-3-clause-ending t c = c.read_while.ensures.ending
+
+pub read_statement-returns-then-stands_at-3-clause-shorter : goal.read_statement-returns-then-stands_at-3-clause-shorter
+read_statement-returns-then-stands_at-3-clause-shorter t c = c.read_while.ensures.shorter
+
+pub read_statement-returns-then-stands_at-4-clause-ok : goal.read_statement-returns-then-stands_at-4-clause-ok
+read_statement-returns-then-stands_at-4-clause-ok t c = c.read_recover.ensures.ok
+
+pub read_statement-returns-then-stands_at-4-clause-err : goal.read_statement-returns-then-stands_at-4-clause-err
+read_statement-returns-then-stands_at-4-clause-err t c = c.read_recover.ensures.err
+
+pub read_statement-returns-then-stands_at-4-clause-ending : goal.read_statement-returns-then-stands_at-4-clause-ending
+read_statement-returns-then-stands_at-4-clause-ending t c = c.read_recover.ensures.ending
+
+pub read_statement-returns-then-stands_at-4-clause-shorter : goal.read_statement-returns-then-stands_at-4-clause-shorter
+read_statement-returns-then-stands_at-4-clause-shorter t c = c.read_recover.ensures.shorter
+
+pub read_statement-returns-then-stands_at-5-clause-ok : goal.read_statement-returns-then-stands_at-5-clause-ok
+read_statement-returns-then-stands_at-5-clause-ok t c = c.read_converse.ensures.ok
+
+pub read_statement-returns-then-stands_at-5-clause-err : goal.read_statement-returns-then-stands_at-5-clause-err
+read_statement-returns-then-stands_at-5-clause-err t c = c.read_converse.ensures.err
+
+pub read_statement-returns-then-stands_at-5-clause-ending : goal.read_statement-returns-then-stands_at-5-clause-ending
+read_statement-returns-then-stands_at-5-clause-ending t c = c.read_converse.ensures.ending
+
+pub read_statement-returns-then-stands_at-5-clause-shorter : goal.read_statement-returns-then-stands_at-5-clause-shorter
+read_statement-returns-then-stands_at-5-clause-shorter t c = c.read_converse.ensures.shorter
+
+pub read_statement-returns-else-stands_at-5-clause-ok : goal.read_statement-returns-else-stands_at-5-clause-ok
+read_statement-returns-else-stands_at-5-clause-ok t c = c.read_simple.ensures.ok c.args.edition
+
+pub read_statement-returns-else-stands_at-5-clause-err : goal.read_statement-returns-else-stands_at-5-clause-err
+read_statement-returns-else-stands_at-5-clause-err t c = c.read_simple.ensures.err c.args.edition
+
+pub read_statement-returns-else-stands_at-5-clause-ending : goal.read_statement-returns-else-stands_at-5-clause-ending
+read_statement-returns-else-stands_at-5-clause-ending t c = c.read_simple.ensures.ending
+
+pub read_statement-returns-else-stands_at-5-clause-shorter : goal.read_statement-returns-else-stands_at-5-clause-shorter
+read_statement-returns-else-stands_at-5-clause-shorter t c = c.read_simple.ensures.shorter
+
+pub read_statement-read_simple-requires-clause-no_receive : goal.read_statement-read_simple-requires-clause-no_receive
+read_statement-read_simple-requires-clause-no_receive t c = sym c.if-stands_at.ensures
+
+pub read_statement-read_simple-requires-clause-no_if : goal.read_statement-read_simple-requires-clause-no_if
+read_statement-read_simple-requires-clause-no_if t c = sym c.if-stands_at-2.ensures
+
+pub read_statement-read_simple-requires-clause-no_while : goal.read_statement-read_simple-requires-clause-no_while
+read_statement-read_simple-requires-clause-no_while t c = sym c.if-stands_at-3.ensures
+
+pub read_statement-read_simple-requires-clause-no_ensure : goal.read_statement-read_simple-requires-clause-no_ensure
+read_statement-read_simple-requires-clause-no_ensure t c = sym c.if-stands_at-4.ensures
+
+pub read_statement-read_simple-requires-clause-no_converse : goal.read_statement-read_simple-requires-clause-no_converse
+read_statement-read_simple-requires-clause-no_converse t c = sym c.if-stands_at-5.ensures
+
+pub read_block-read_statements-requires : goal.read_block-read_statements-requires
+read_block-read_statements-requires t c = (falls_32 20 15 c.decreases (omega arith) (no_more c.in_ok-vars.ensures.shorter c.in_ok-take.ensures.shorter), tt)
+
+pub read_if-read_block-requires : goal.read_if-read_block-requires
+read_if-read_block-requires t c = (falls_32 15 8 c.decreases (omega arith) (and_fewer c.in_ok-test.ensures.shorter c.in_ok-take.ensures.shorter), tt)
+
+pub read_if-read_else-requires : goal.read_if-read_else-requires
+read_if-read_else-requires t c = (falls_32 16 8 c.decreases (omega arith) (and_fewer c.in_ok-block.ensures.shorter (and_fewer c.in_ok-test.ensures.shorter c.in_ok-take.ensures.shorter)), tt)
+
+pub read_else-read_block-requires : goal.read_else-read_block-requires
+read_else-read_block-requires t c = (falls_32 15 16 c.decreases (omega arith) c.in_ok-take.ensures.shorter, tt)
+
+pub read_while-read_block-requires : goal.read_while-read_block-requires
+read_while-read_block-requires t c = (falls_32 15 8 c.decreases (omega arith) (and_fewer c.in_ok-test.ensures.shorter c.in_ok-take.ensures.shorter), tt)
+
+pub read_receive-read_receipt_end-requires : goal.read_receive-read_receipt_end-requires
+read_receive-read_receipt_end-requires t c = (falls_32 16 8 c.decreases (omega arith) (and_fewer c.in_ok-place.ensures.shorter c.in_ok-channel.ensures.shorter), tt)
+
+pub read_receipt_end-read_block-requires : goal.read_receipt_end-read_block-requires
+read_receipt_end-read_block-requires t c = (falls_32 15 16 c.decreases (omega arith) c.in_ok-take.ensures.shorter, tt)
+
+pub read_converse-read_recovery-requires : goal.read_converse-read_recovery-requires
+read_converse-read_recovery-requires t c = (falls_32 7 8 c.decreases (omega arith) c.in_ok-name.ensures.shorter, tt)
+
+pub read_recovery-read_alternates-requires : goal.read_recovery-read_alternates-requires
+read_recovery-read_alternates-requires t c = (falls_32 18 7 c.decreases (omega arith) (and_fewer c.in_ok-bound.ensures.shorter (and_fewer c.in_ok-test.ensures.shorter (and_fewer c.in_ok-tested.ensures.shorter c.in_ok-token.ensures.shorter))), tt)
+
+pub read_alternate-read_block-requires : goal.read_alternate-read_block-requires
+read_alternate-read_block-requires t c = (falls_32 15 17 c.decreases (omega arith) c.in_ok-take.ensures.shorter, tt)
