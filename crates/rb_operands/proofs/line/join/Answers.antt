@@ -1,5 +1,6 @@
 use Rattle.std.proofs.Common.{◌≡◌, ℕ, ◌<◌, arith}
 use Rattle.std.proofs.lemmas.Bool.{eqb-false, eqb-true}
+use Rattle.std.proofs.lemmas.Grind.{common_steps}
 use Rattle.rb_operands.proofs.Joins.{joined_more}
 use Rattle.rb_operands.proofs.line.join.Goals as goal
 use Rattle.std.specs.Prelude.{nat_eq}
@@ -25,3 +26,6 @@ loop-index-preserved c =
           (λ q. eqb-true i 0 q) (λ q. positive i (eqb-false i 0 q)) c.loop-index.invariant.joins c.add_next.ensures.text c.add_next.ensures.bytes;
       room = let a = c.loop-index.invariant.room in let b = c.add_next.ensures.room in omega arith;
     }
+
+pub returns-clause-joined : goal.returns-clause-joined
+returns-clause-joined c = grind (arith, common_steps)
