@@ -3,3 +3,4 @@ pub mod InMemory
 pub mod Given
 pub mod Writes
 pub mod Laws
+pub mod InProcesses

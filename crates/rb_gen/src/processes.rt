@@ -4,6 +4,7 @@ ghost use Rattle.std.specs.Prelude.{◌≡◌, map, IfOk};
 ghost use Rattle.rb_syntax.specs.Plain.{procedure_declaration, process_declaration as declared};
 ghost use Rattle.rb_code.specs.Instructions.Plain.{channel as plain_channel, part as plain_part, procedure as plain_procedure};
 ghost use Rattle.rb_draft.specs.Output.{output};
+ghost use Rattle.rb_gen.specs.InProcesses.{WritesProcedure};
 ghost use Rattle.rb_gen.specs.Writes.{WritesProcedures, WritesProcess, WritesProcesses, room_of};
 
 use crate::linking::link;
@@ -45,14 +46,29 @@ fn emit_procedures(
     let mut entries = Vec::with_capacity(alloc, procedures.len())?;
     let mut rest = procedures;
     'procedures: while let [procedure, after @ ..] = rest {
-        let start = here(draft)?;
-        let name = Text::from_slice(alloc, procedure.name.text)?;
-        emit_statements(alloc, draft, slots, words, &procedure.block.body)?;
-        put(draft, Instr::Return)?;
-        entries.push(ProcedureCode { name, start })?;
+        let entry = emit_procedure(alloc, draft, slots, words, procedure)?;
+        entries.push(entry)?;
         rest = after;
     }
     Ok(entries)
+}
+
+/// The code of a procedure, and where it begins.
+fn emit_procedure(
+    alloc: Global,
+    draft: &mut Draft,
+    slots: &[Slot],
+    words: &[u32],
+    procedure: &Procedure<'_>,
+) -> Result<ProcedureCode, Memory>
+    ensures { IfOk result
+        (λ entry. WritesProcedure slots.now words.now procedure.now (plain_procedure entry) (output draft.old) (output draft.new)) }
+{
+    let start = here(draft)?;
+    emit_statements(alloc, draft, slots, words, &procedure.block.body)?;
+    put(draft, Instr::Return)?;
+    let name = Text::from_slice(alloc, procedure.name.text)?;
+    Ok(ProcedureCode { name, start })
 }
 
 /// The code of a process with its procedures, and where each of these begins.

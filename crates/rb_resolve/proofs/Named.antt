@@ -1,5 +1,5 @@
 -- Lists that are named an entry at a time, from the first on.
-use Rattle.std.proofs.Common.{◌≡◌, ℕ, suc, ◌-◌, ◌+◌, ◌<◌, ◌≤◌, List, [], ◌∷◌, ◌++◌, length, take, drop, map, refl, sym, ap, ◌∙◌, subst, arith, append_assoc}
+use Rattle.std.proofs.Common.{◌≡◌, ℕ, ◌-◌, ◌+◌, ◌<◌, ◌≤◌, List, [], ◌∷◌, ◌++◌, length, take, drop, map, sym, ap, ◌∙◌, arith, append_assoc}
 use Rattle.std.specs.Prelude.{get_or}
 use Rattle.std.proofs.Math.Seq.{take-length}
 use Rattle.std.proofs.lemmas.List.{append-nil, length-map}
@@ -28,6 +28,12 @@ pub counted_step : {X Y : Type 0} (others : ℕ → List X → List Y) (rest : L
 counted_step others rest x d k k' more y named named' all splits h is these counts whole =
     ap (λ n. named' ++ others n (take (length rest - 1) (drop 1 rest))) counts
     ∙ named_step (others k) (others (k + more)) rest x d y named named' all splits h is these whole
+
+-- fewer are left
+pub fewer_left : {X : Type 0} (rest : List X) → 1 ≤ length rest → length (take (length rest - 1) (drop 1 rest)) < length rest
+fewer_left [] h = absurd (omega arith)
+fewer_left (x ∷ xs) h =
+    let these : length (take (length (x ∷ xs) - 1) (drop 1 (x ∷ xs))) ≡ length xs = ap length (after_one x xs) in omega arith
 
 -- no other is left
 pub named_end : {X Y : Type 0} (before : List X → List Y) (rest : List X) (named all : List Y) → before [] ≡ [] → length rest < 1

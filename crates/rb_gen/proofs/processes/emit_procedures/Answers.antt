@@ -1,4 +1,4 @@
-use Rattle.std.proofs.Common.{List, [], ◌∷◌, ◌++◌, ap, sym, ◌∙◌, subst, map, refl, ℕ}
+use Rattle.std.proofs.Common.{List, [], ◌∷◌, ◌++◌, ap, sym, ◌∙◌, subst, map, refl}
 use Rattle.std.proofs.lemmas.List.{map-append}
 use Rattle.rb_syntax.specs.Plain.{procedure_declaration}
 use Rattle.rb_code.specs.declared.code.ProcedureCode.{ProcedureCode}
@@ -6,7 +6,7 @@ use Rattle.rb_code.specs.Instructions.Plain.{Procedure, procedure}
 use Rattle.rb_draft.specs.Output.{output}
 use Rattle.rb_gen.specs.Writes.{WritesProcedures}
 use Rattle.rb_gen.proofs.Slices.{split, none_left}
-use Rattle.rb_gen.proofs.ProcessRows.{procedures_end, procedures_step, same_commands}
+use Rattle.rb_gen.proofs.ProcessRows.{procedures_end, procedures_step}
 use Rattle.rb_gen.proofs.processes.emit_procedures.Goals as goal
 
 pub procedures-init : goal.procedures-init
@@ -20,14 +20,13 @@ pub procedures-preserved : goal.procedures-preserved
 procedures-preserved c =
     let rest = c.procedures.rest.now in
     let held = c.procedure-item.result in
-    let entry : List ℕ → Procedure = λ name. record { name = name; start = c.in_ok-start.start } in
+    let writes = c.in_ok-entry.ensures in
     procedures_step c.args.slots.now c.args.words.now
-    (map procedure_declaration c.args.procedures.now) _ held c.in_ok-start.start
+    (map procedure_declaration c.args.procedures.now) _ held _
     (map procedure c.procedures.entries.items) _
-    (ap (map procedure_declaration) (split rest held c.in-len1-up.len_at_least c.procedure-item.is)) c.in_ok-start.ensures
-    (same_commands c.args.slots.now refl c.deref.ensures.value c.in_ok-emit_statements.ensures) (c.in_ok-put.ensures refl)
+    (ap (map procedure_declaration) (split rest held c.in-len1-up.len_at_least c.procedure-item.is)) refl writes.1 writes.2
     (ap (map procedure) c.in_ok-push.ensures.items ∙ map-append procedure c.procedures.entries.items _ ∙ ap
-    (λ (name : List ℕ). map procedure c.procedures.entries.items ++ (entry name ∷ [])) c.in_ok-name.ensures)
+    (λ (entry : Procedure). map procedure c.procedures.entries.items ++ (entry ∷ [])) writes.3)
     c.procedures.invariant
 
 pub returns : goal.returns

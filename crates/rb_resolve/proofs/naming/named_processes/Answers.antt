@@ -4,7 +4,7 @@ use Rattle.rb_meaning.specs.Meaning.{process_named}
 use Rattle.rb_syntax.specs.declared.program.Process.{Process}
 use Rattle.rb_syntax.specs.Plain.{process_declaration}
 use Rattle.rb_trace.specs.Naming.{process_naming}
-use Rattle.rb_resolve.proofs.Named.{named_end, named_step, room_after}
+use Rattle.rb_resolve.proofs.Named.{fewer_left, named_end, named_step, room_after}
 use Rattle.rb_resolve.proofs.naming.named_processes.Goals as goal
 
 pub processes-preserved : goal.processes-preserved
@@ -19,6 +19,9 @@ processes-preserved c =
       room = room_after rest _ _ _ _ c.in-len1-up.len_at_least c.push_reserved.ensures.len c.push_reserved.ensures.capacity
           c.processes.invariant.room;
     }
+
+pub processes-smaller : goal.processes-smaller
+processes-smaller c = fewer_left c.processes.rest.now c.in-len1-up.len_at_least
 
 pub returns : goal.returns
 returns c =

@@ -1,10 +1,10 @@
-use Rattle.std.proofs.Common.{List, [], ◌∷◌, ◌++◌, ◌+◌, ap, ap₂, map, refl, ◌∙◌, get_or}
+use Rattle.std.proofs.Common.{List, [], ◌∷◌, ◌++◌, ◌+◌, ap, map, refl, ◌∙◌}
 use Rattle.std.proofs.lemmas.List.{map_push}
 use Rattle.rb_meaning.specs.Meaning.{variables_named}
 use Rattle.rb_syntax.specs.declared.statement.Var.{Var}
 use Rattle.rb_syntax.specs.Plain.{declaration}
 use Rattle.rb_trace.specs.Naming.{variable_naming}
-use Rattle.rb_resolve.proofs.Named.{counted_step, named_end, room_after}
+use Rattle.rb_resolve.proofs.Named.{counted_step, fewer_left, named_end, room_after}
 use Rattle.rb_resolve.proofs.naming.named_variables.Goals as goal
 
 pub variables-preserved : goal.variables-preserved
@@ -20,6 +20,9 @@ variables-preserved c =
       room = room_after rest _ _ _ _ c.in-len1-up.len_at_least c.push_reserved.ensures.len c.push_reserved.ensures.capacity
           c.variables.invariant.room;
     }
+
+pub variables-smaller : goal.variables-smaller
+variables-smaller c = fewer_left c.variables.rest.now c.in-len1-up.len_at_least
 
 pub returns : goal.returns
 returns c =

@@ -1,4 +1,4 @@
-use Rattle.std.proofs.Common.{◌≡◌, ◌<◌, ◌^◌, ℕ, ap, subst, sym, ◌∙◌, length, arith}
+use Rattle.std.proofs.Common.{◌≡◌, ◌<◌, ◌^◌, ℕ, subst, sym, ◌∙◌, arith}
 use Rattle.rb_meaning.specs.Meaning.{process_named}
 use Rattle.rb_syntax.specs.Plain.{channel_declaration, conversation_declaration, process_declaration}
 use Rattle.rb_syntax.specs.Tree.{ChannelDeclaration, ConversationDeclaration}

@@ -4,7 +4,7 @@ use Rattle.rb_syntax.specs.declared.program.Channel.{Channel}
 use Rattle.rb_syntax.specs.Plain.{channel_declaration}
 use Rattle.rb_scope.specs.Memory.{held, all_held}
 use Rattle.rb_scope.specs.Scopes.{Declared, channels_from}
-use Rattle.rb_resolve.proofs.Named.{counted_step, named_end}
+use Rattle.rb_resolve.proofs.Named.{counted_step, fewer_left, named_end}
 use Rattle.rb_resolve.proofs.rows.add_channels.Goals as goal
 
 abbrev others : ℕ → List Channel → List Declared
@@ -15,6 +15,9 @@ channels-preserved c =
     let before = c.channels.declared.items in
     counted_step others c.channels.rest.now _ _ _ _ _ _ (all_held before) _ _ (λ xs. refl) c.in-len1-up.len_at_least refl
     (ap all_held c.in_ok-push.ensures.items ∙ map_push held before _) c.in_ok-number.ensures c.channels.invariant
+
+pub channels-smaller : goal.channels-smaller
+channels-smaller c = fewer_left c.channels.rest.now c.in-len1-up.len_at_least
 
 pub returns : goal.returns
 returns c =

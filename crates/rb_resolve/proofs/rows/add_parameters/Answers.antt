@@ -4,7 +4,7 @@ use Rattle.rb_syntax.specs.declared.expression.Name.{Name}
 use Rattle.rb_syntax.specs.Plain.{identifier}
 use Rattle.rb_scope.specs.Memory.{held, all_held}
 use Rattle.rb_scope.specs.Scopes.{Declared, parameters_from}
-use Rattle.rb_resolve.proofs.Named.{counted_step, named_end}
+use Rattle.rb_resolve.proofs.Named.{counted_step, fewer_left, named_end}
 use Rattle.rb_resolve.proofs.rows.add_parameters.Goals as goal
 
 abbrev others : ℕ → List Name → List Declared
@@ -15,6 +15,9 @@ parameters-preserved c =
     let before = c.parameters.declared.items in
     counted_step others c.parameters.rest.now _ _ _ _ _ _ (all_held before) _ _ (λ xs. refl) c.in-len1-up.len_at_least refl
     (ap all_held c.in_ok-push.ensures.items ∙ map_push held before _) c.in_ok-at.ensures c.parameters.invariant
+
+pub parameters-smaller : goal.parameters-smaller
+parameters-smaller c = fewer_left c.parameters.rest.now c.in-len1-up.len_at_least
 
 pub returns : goal.returns
 returns c =

@@ -4,7 +4,7 @@ use Rattle.rb_syntax.specs.declared.program.Process.{Process}
 use Rattle.rb_syntax.specs.Plain.{process_declaration}
 use Rattle.rb_scope.specs.Memory.{held, all_held}
 use Rattle.rb_scope.specs.Scopes.{Declared, processes_from}
-use Rattle.rb_resolve.proofs.Named.{counted_step, named_end}
+use Rattle.rb_resolve.proofs.Named.{counted_step, fewer_left, named_end}
 use Rattle.rb_resolve.proofs.rows.add_processes.Goals as goal
 
 abbrev others : ℕ → List Process → List Declared
@@ -15,6 +15,9 @@ processes-preserved c =
     let before = c.processes.declared.items in
     counted_step others c.processes.rest.now c.process-item.result _ _ _ _ _ (all_held before) _ _ (λ xs. refl) c.in-len1-up.len_at_least c.process-item.is
     (ap all_held c.in_ok-push.ensures.items ∙ map_push held before _) c.in_ok-number.ensures c.processes.invariant
+
+pub processes-smaller : goal.processes-smaller
+processes-smaller c = fewer_left c.processes.rest.now c.in-len1-up.len_at_least
 
 pub returns : goal.returns
 returns c =
