@@ -8,7 +8,7 @@ use Rattle.rb_stuck.specs.Programs.{word_standing_text}
 use Rattle.rb_stages.specs.Judgement.{Writes}
 use Rattle.rb_stages.proofs.Answering.{text_ends}
 use Rattle.rb_stages.proofs.Loaded.{is_sound}
-use Rattle.rb_commands.proofs.Surveys.{named_later, text_after, waits_later}
+use Rattle.rb_commands.proofs.Surveys.{named_after, named_later, text_after, waits_later}
 use Rattle.rb_commands.proofs.survey_turns.survey_turns.Goals as goal
 
 pub load-requires-clause-sound : goal.load-requires-clause-sound
@@ -27,6 +27,12 @@ pub survey-standing-requires-clause-waits : goal.survey-standing-requires-clause
 survey-standing-requires-clause-waits g c =
     let led = c.count.ensures.machine ∙ ap (λ (m : Seen). ran m c.args.schedule.all) c.in-Ok.ensures in
     waits_later c.requires.prepared.0 c.args.prepared.now c.requires.prepared.1 _ c.args.schedule.all c.count.new.machine led
+
+pub write_standing-requires : goal.write_standing-requires
+write_standing-requires g c stuck =
+    let led = c.count.ensures.machine ∙ ap (λ (m : Seen). ran m c.args.schedule.all) c.in-Ok.ensures in
+    named_after c.requires.prepared.0 c.args.prepared.now c.requires.prepared.1 _ c.args.schedule.all c.count.new.machine led
+    c.survey-standing.new.machine c.survey-standing.result c.survey-standing.ensures.standing c.survey-standing.ensures.after stuck
 
 pub returns-in-Ok : goal.returns-in-Ok
 returns-in-Ok g c =
