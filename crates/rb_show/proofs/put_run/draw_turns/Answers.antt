@@ -1,8 +1,7 @@
-use Rattle.std.proofs.Common.{refl}
-use Rattle.rb_stages.proofs.Answering.{text_ends}
+use Rattle.rb_show.proofs.Putting.{text_written}
 use Rattle.rb_show.proofs.put_run.draw_turns.Goals as goal
 
 pub returns-in-Ok-load : goal.returns-in-Ok-load
 returns-in-Ok-load g c =
-    text_ends _ _ c.status_after.result _ (g.S.Sink.written c.args.out) (g.S.Sink.written c.put_in-sink.result.0) (g.S.Sink.faults c.args.out)
-    (g.S.Sink.faults c.put_in-sink.result.0) c.put_in-sink.ensures c.status_after.ensures refl
+    text_written _ _ c.status_after.result (g.S.Sink.written c.args.out) (g.S.Sink.written c.put_in-sink.result.0) (g.S.Sink.faults c.args.out)
+    (g.S.Sink.faults c.put_in-sink.result.0) c.put_in-sink.ensures c.status_after.ensures
