@@ -238,7 +238,14 @@ def cuts():
     yield Run("not cut", ["check", "a"], {"a": CUT}, 0, "accepted\n")
 
 
+def longest_pages():
+    """A page of the most bytes, and one with a byte more, which is refused."""
+    files = {"a": "c" * MOST, "b": EMPTY, "c": "p 1"}
+    yield Run("views.rows: a page of the most bytes", ["page", "a", "b", "c"], files, 0, Parts(begins="c" * MOST))
+    yield Run("views.rows: a page of a byte more", ["page", "a", "b", "c"], {**files, "a": "c" * (MOST + 1)}, 1, "refused L0\n")
+
+
 def made_runs():
     """All of them."""
-    for runs in (limits, largest, longest_files, conversations, listings, no_commands, cuts):
+    for runs in (limits, largest, longest_files, longest_pages, conversations, listings, no_commands, cuts):
         yield from runs()

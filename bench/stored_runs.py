@@ -3,7 +3,7 @@
 
 The rows stand in bench/runs/*.rows. There `=== TITLE` begins a row, `$ WORDS` are its words, `--- NAME` begins the text of a file, and `--- STATUS`
 what is written, with the status. A file's text has no newline at its end, but where an empty line ends it; ␍ stands for a carriage return, and ␡ for
-the byte 7f. What reaches a limit is made by limit_runs.py. The rows of views.rows are of `rblview`, all others of `rbl`. Status 1 only where a program stands built and
+the byte 7f. What reaches a limit is made by limit_runs.py. Rows of views.rows, and runs named so there, are of `rblview`, all others of `rbl`. Status 1 only where a program stands built and
 one of the runs comes out otherwise. RBL and RBLVIEW may name other programs.
 """
 import glob
