@@ -15,17 +15,12 @@ pub fn put_line<S: Sink>(out: &mut S, words: &[&[u8]]) -> Result<(), Failed>
 {
     match words {
         [] => put(out, b"\n"),
-        [first, others @ ..] => put_first(out, first, others),
+        [first, others @ ..] => {
+            put(out, first)?;
+            put_others(out, others)?;
+            put(out, b"\n")
+        }
     }
-}
-
-fn put_first<S: Sink>(out: &mut S, first: &[u8], others: &[&[u8]]) -> Result<(), Failed>
-    ensures { Puts (first.now ++ (spaced (map (λ word. word.now) others.now) ++ 10 ∷ [])) (S.written out.old)
-        (S.written out.new) (S.faults out.old) (S.faults out.new) result }
-{
-    put(out, first)?;
-    put_others(out, others)?;
-    put(out, b"\n")
 }
 
 /// Writes bytes.

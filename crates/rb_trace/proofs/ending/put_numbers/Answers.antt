@@ -1,4 +1,4 @@
-use Rattle.std.proofs.Common.{ℕ, List, [], ◌∷◌, ◌++◌, map, codes}
+use Rattle.std.proofs.Common.{[], ◌∷◌, ◌++◌, map, codes}
 use Rattle.std.specs.Fmt.{signed_decimal}
 use Rattle.rb_outside.proofs.Puts.{puts_both, puts_stopped_at}
 use Rattle.rb_trace.specs.Lines.{spaced}
