@@ -3,7 +3,7 @@ use Rattle.std.proofs.Common.{◌≡◌, ◌≢◌, ℕ, ◌+◌, Bool, cond, Li
 use Rattle.std.proofs.lemmas.Bool.{ne_eqb}
 use Rattle.std.proofs.lemmas.List.{append-nil}
 use Rattle.rb_world.specs.World.{last_of}
-use Rattle.rb_picture.specs.Changes.{held_line, held_lines, last_line}
+use Rattle.rb_changes.specs.Changes.{held_line, held_lines, last_line}
 
 module _ (t was now : ℕ) (p : List ℕ) (held : List (List ℕ)) (long : length held ≡ now) where
   abbrev rest : List ℕ

@@ -1,7 +1,5 @@
 pub mod Bare
 pub mod Holding
-pub mod InTurn
-pub mod Parts
 pub mod SameShown
 pub mod SameRuns
 pub mod SentOnce
@@ -10,4 +8,3 @@ pub mod MeantWords
 pub mod MeantHead
 pub mod PlacesMeant
 pub mod AsMeant
-pub mod Walked

@@ -23,9 +23,9 @@ use Rattle.rb_code.specs.WordMachine.Turn.{block_facts}
 use Rattle.rb_picture.specs.Head.{block_head, facts_head, head_text, head_with, meetings}
 use Rattle.rb_picture.specs.Laws.{AreCounts}
 use Rattle.rb_picture.specs.Meant.{before_run, blocks_of_alternates, blocks_of_body, blocks_of_command, blocks_of_commands, blocks_of_otherwise, blocks_of_procedures, blocks_of_processes, blocks_of_recovery, counts_from, counts_of, tree_head}
-use Rattle.rb_picture.specs.Noted.{ProcessNoted}
-use Rattle.rb_picture.specs.Numbered.{numbered}
-use Rattle.rb_picture.specs.Shown.{unused}
+use Rattle.rb_changes.specs.Noted.{ProcessNoted}
+use Rattle.rb_changes.specs.Numbered.{numbered}
+use Rattle.rb_changes.specs.Shown.{unused}
 use Rattle.rb_picture.specs.Trace.{before_opening, fresh_process, process_before}
 
 -- as many recovery blocks are told as are numbered

@@ -25,10 +25,10 @@ use Rattle.rb_meaning.specs.Step.{Nothing}
 use Rattle.rb_code.proofs.WholeRuns.KeptTurns.{last_turn}
 use Rattle.rb_code.proofs.WholeRuns.WordsSimulate.{SlotWorld, slotted}
 use Rattle.rb_picture.specs.Meant.{turn_number}
-use Rattle.rb_picture.specs.Noted.{WorldNoted}
-use Rattle.rb_picture.specs.Shown.{Reading}
+use Rattle.rb_changes.specs.Noted.{WorldNoted}
+use Rattle.rb_changes.specs.Shown.{Reading}
 use Rattle.rb_picture.specs.Trace.{opening_text, turn_texts}
-use Rattle.rb_picture.specs.declared.noted.Numbers.{Numbers}
+use Rattle.rb_changes.specs.declared.noted.Numbers.{Numbers}
 use Rattle.rb_picture.proofs.SameRuns.{SameMessages, opening_same, texts_same}
 use Rattle.rb_picture.proofs.SameShown.{ReadsAlike}
 

@@ -42,10 +42,10 @@ use Rattle.rb_code.proofs.WholeRuns.RunsAgree.{same_processes}
 use Rattle.rb_code.proofs.WholeRuns.WhatIsKnown.{KnownAlong, along, known_first, reading, reads}
 use Rattle.rb_code.proofs.WholeRuns.WordsSimulate.{IsKnown, SlotWorld, slotted, words_simulate}
 use Rattle.rb_world.proofs.Relating.RunsMeet.{opening_meets}
-use Rattle.rb_picture.specs.Noted.{WorldNoted, world_noted}
-use Rattle.rb_picture.specs.Shown.{ChannelShown, channel_of, channels_shown, world_shown}
+use Rattle.rb_changes.specs.Noted.{WorldNoted, world_noted}
+use Rattle.rb_changes.specs.Shown.{ChannelShown, channel_of, channels_shown, world_shown}
 use Rattle.rb_picture.specs.Trace.{address_told, opening_text, place_at, turn_texts, word_reading}
-use Rattle.rb_picture.specs.declared.noted.Numbers.{Numbers}
+use Rattle.rb_changes.specs.declared.noted.Numbers.{Numbers}
 use Rattle.rb_picture.proofs.MeantTurns.{apart, number_is_last, run_more, seen_level, slot_reading}
 use Rattle.rb_picture.proofs.SameRuns.{SameMessages, get_shown, opening_same, shown_on, texts_same}
 use Rattle.rb_picture.proofs.SameShown.{ReadsAlike}

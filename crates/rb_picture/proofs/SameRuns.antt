@@ -9,10 +9,10 @@ use Rattle.rb_world.proofs.Relating.ProcessesMeet.{ProcessesMeet, WorldsMeet, ge
 use Rattle.rb_world.proofs.Relating.RunsMeet.{KeepsKnown, same_told_at_opening}
 use Rattle.rb_world.proofs.Relating.Simulation.{Shared, Related, Knowing, IsSimulation, copies_of}
 use Rattle.rb_world.proofs.Relating.TurnsMeet.{KnowsTurn, turn_meets}
-use Rattle.rb_picture.specs.Noted.{WorldNoted, world_noted}
-use Rattle.rb_picture.specs.Shown.{ChannelShown, Reading, channel_of, channels_shown, last_value, world_shown}
+use Rattle.rb_changes.specs.Noted.{WorldNoted, world_noted}
+use Rattle.rb_changes.specs.Shown.{ChannelShown, Reading, channel_of, channels_shown, last_value, world_shown}
 use Rattle.rb_picture.specs.Trace.{opening_text, turn_of, turn_texts}
-use Rattle.rb_picture.specs.declared.noted.Numbers.{Numbers}
+use Rattle.rb_changes.specs.declared.noted.Numbers.{Numbers}
 use Rattle.rb_picture.proofs.SameShown.{ChannelsAlike, ReadsAlike, ShownAlike, WorldsShownAlike, all_processes_same, asked_same, changes_same, noted_same, numbers_same, turn_same}
 
 -- a channel of a world

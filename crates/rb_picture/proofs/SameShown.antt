@@ -13,16 +13,16 @@ use Rattle.rb_world.proofs.Relating.ChannelsMeet.{CopiesMeet}
 use Rattle.rb_world.proofs.Relating.MarksMeet.{OptionsMeet, SameMark, SameMarks, last_marks}
 use Rattle.rb_world.proofs.Relating.ProcessesMeet.{ProcessesMeet, AllMeet, WorldsMeet, cond_meets, get_meets}
 use Rattle.rb_world.proofs.Relating.Simulation.{Shared, Related, Knowing, IsSimulation, copies_of}
-use Rattle.rb_picture.specs.Changes.{all_channels, all_processes, all_talks, change_of, changes, channel_changes, message_change, message_line, numbers_change}
-use Rattle.rb_picture.specs.Noted.{WorldNoted, process_noted, world_noted}
-use Rattle.rb_picture.specs.Numbered.{numbered}
-use Rattle.rb_picture.specs.Shown.{ChannelShown, ProcessShown, Reading, WorldShown, channel_between, channel_of, channels_shown, level_shown, process_shown, stand_of, world_shown}
+use Rattle.rb_changes.specs.Changes.{all_channels, all_processes, all_talks, change_of, changes, channel_changes, message_change, message_line, numbers_change}
+use Rattle.rb_changes.specs.Noted.{WorldNoted, process_noted, world_noted}
+use Rattle.rb_changes.specs.Numbered.{numbered}
+use Rattle.rb_changes.specs.Shown.{ChannelShown, ProcessShown, Reading, WorldShown, channel_between, channel_of, channels_shown, level_shown, process_shown, stand_of, world_shown}
 use Rattle.rb_picture.specs.Trace.{back_text, turn_text}
 use Rattle.rb_picture.specs.Turns.{asked_first, asked_now, asked_of, line_asked, start_asked, turn_line}
 use Rattle.rb_picture.specs.declared.asked.Asked.{Asked}
 use Rattle.rb_picture.specs.declared.asked.Asked.TheVariants.{Line, Start}
-use Rattle.rb_picture.specs.declared.noted.Numbers.{Numbers}
-use Rattle.rb_picture.specs.declared.noted.OpenLevel.{OpenLevel}
+use Rattle.rb_changes.specs.declared.noted.Numbers.{Numbers}
+use Rattle.rb_changes.specs.declared.noted.OpenLevel.{OpenLevel}
 
 -- What is read of related states, and of the copies of their levels.
 pub record ReadsAlike {S C M T D N : Type 0} (r : Reading S C M) (l : Reading T D N) (related : Related S C M T D N) : Type 0 where

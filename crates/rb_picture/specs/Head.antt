@@ -8,7 +8,7 @@ use Rattle.rb_world.specs.Text.{Naming, ProcessNaming, VariableNaming, conversat
 use Rattle.rb_trace.specs.Lines.{spaced}
 use Rattle.rb_code.specs.Instructions.Plain.{Block, Code}
 use Rattle.rb_code.specs.WordMachine.Turn.{block_facts}
-use Rattle.rb_picture.specs.Numbered.{numbered}
+use Rattle.rb_changes.specs.Numbered.{numbered}
 use Rattle.rb_picture.specs.Turns.{channel_word}
 
 abbrev pub edition_word : Edition → List ℕ

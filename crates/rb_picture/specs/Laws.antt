@@ -18,7 +18,7 @@ use Rattle.rb_code.specs.Agreement.StandsFor.{StandsFor}
 use Rattle.rb_code.specs.WordMachine.Turn.{Copy, Standing}
 use Rattle.rb_code.specs.WordMachine.WordRun.{word_run}
 use Rattle.rb_picture.specs.Meant.{before_run, place_meant, tree_head, tree_reading, tree_trace_text}
-use Rattle.rb_picture.specs.Shown.{Reading}
+use Rattle.rb_changes.specs.Shown.{Reading}
 use Rattle.rb_picture.specs.Trace.{address_told, place_at, trace_from, trace_text}
 
 -- these numbers of alternates are those of the conversations of a tree

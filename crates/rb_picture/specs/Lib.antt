@@ -1,7 +1,3 @@
-pub mod Numbered
-pub mod Shown
-pub mod Noted
-pub mod Changes
 pub mod Turns
 pub mod Head
 pub mod Heads

@@ -14,9 +14,9 @@ use Rattle.rb_meaning.specs.Groups.{channels_of, facts_of, groups_of, number_or_
 use Rattle.rb_meaning.specs.Nesting.{alternates_of}
 use Rattle.rb_meaning.specs.Meaning.{final_of, naming_of, opening_world, tree_kind}
 use Rattle.rb_picture.specs.Head.{facts_head, head_with, meetings}
-use Rattle.rb_picture.specs.Noted.{WorldNoted}
+use Rattle.rb_changes.specs.Noted.{WorldNoted}
 use Rattle.rb_code.specs.Agreement.Places.{block_place, command_place}
-use Rattle.rb_picture.specs.Shown.{Reading, unused}
+use Rattle.rb_changes.specs.Shown.{Reading, unused}
 use Rattle.rb_picture.specs.Trace.{fresh_process, trace_from}
 
 -- Of what stands first in what is left of a text.

@@ -13,11 +13,11 @@ use Rattle.rb_code.specs.Instructions.Plain.{Block, Code, Part}
 use Rattle.rb_code.specs.WordMachine.Turn.{Common, Copy, Standing}
 use Rattle.rb_code.specs.WordMachine.WordKind.{word_kind}
 use Rattle.rb_code.specs.WordMachine.WordRun.{opening_of, variable_words, word_final}
-use Rattle.rb_picture.specs.Changes.{all_back, changes}
+use Rattle.rb_changes.specs.Changes.{all_back, changes}
 use Rattle.rb_picture.specs.Head.{head_text}
-use Rattle.rb_picture.specs.Noted.{ProcessNoted, WorldNoted, world_noted}
-use Rattle.rb_picture.specs.Shown.{Reading, WorldShown, unused, world_shown}
-use Rattle.rb_picture.specs.declared.noted.Stand.TheVariants.{Runs}
+use Rattle.rb_changes.specs.Noted.{ProcessNoted, WorldNoted, world_noted}
+use Rattle.rb_changes.specs.Shown.{Reading, WorldShown, unused, world_shown}
+use Rattle.rb_changes.specs.declared.noted.Stand.TheVariants.{Runs}
 use Rattle.rb_picture.specs.Turns.{asked_of, turn_line}
 use Rattle.rb_picture.specs.declared.asked.Asked.{Asked}
 

@@ -7,7 +7,7 @@ use Rattle.rb_base.specs.declared.place.Place.{Place}
 use Rattle.rb_world.specs.Kind.{Kind, Want, NothingLeft, SendsOn, ReceivesOn, MayReceiveOn, Enters, Starts, Acts}
 use Rattle.rb_world.specs.Text.{Naming, conversation_word, process_word}
 use Rattle.rb_world.specs.World.{Level, Process, ProcessStatus, Running, Finished, FailedWith, last_of}
-use Rattle.rb_picture.specs.Changes.{line_in}
+use Rattle.rb_changes.specs.Changes.{line_in}
 use Rattle.rb_picture.specs.declared.asked.Asked.{Asked}
 use Rattle.rb_picture.specs.declared.asked.Asked.TheVariants.{Nothing, Line, Room, Message, Maybe, Entry, Start, Step}
 

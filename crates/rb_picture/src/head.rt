@@ -10,7 +10,7 @@ ghost use Rattle.rb_trace.specs.Naming.{naming, process_naming, variable_naming}
 ghost use Rattle.rb_world.specs.Text.{line_of, process_word};
 ghost use Rattle.rb_picture.specs.Head.{block_head, channel_head, conversation_head, conversation_or, edition_word, group_text, head_of, process_head, variable_head};
 ghost use Rattle.rb_picture.specs.Heads.{meeting};
-ghost use Rattle.rb_picture.specs.Numbered.{numbered};
+ghost use Rattle.rb_changes.specs.Numbered.{numbered};
 
 use itoa::Buffer;
 use rb_base::{Edition, Group, Names, Nested, ProcessNames, Text, Variable};

@@ -3,10 +3,10 @@
 ghost use Rattle.std.specs.Prelude.{◌≡◌, ◌-◌, ℕ, ◌<◌, ◌^◌, List, length, option_copied};
 ghost use Rattle.rb_outside.specs.Puts.{Puts};
 ghost use Rattle.rb_world.specs.World.{last_of};
-ghost use Rattle.rb_picture.specs.Changes.{held_lines, is_same_stand, last_line, state_line};
+ghost use Rattle.rb_changes.specs.Changes.{held_lines, is_same_stand, last_line, state_line};
 
-use crate::change::{write_failure, write_held, write_last_line, write_stand};
-use crate::noted::Stand;
+use rb_changes::change::{write_failure, write_held, write_last_line, write_stand};
+use rb_changes::noted::Stand;
 use rb_outside::{Failed, Sink};
 
 /// Writes how many lines a process holds, if that is another number, and the last of them, if they are one more.

@@ -4,8 +4,8 @@ ghost use Rattle.std.specs.Prelude.{◌≡◌, IfOk};
 ghost use Rattle.rb_syntax.specs.Plain.{tree};
 ghost use Rattle.rb_code.specs.Agreement.Places.{is_turn, place_number, placed_from, places_told};
 
-use crate::turn_places::places_of_turns;
 use rb_base::{Memory, Place};
+use rb_changes::turn_places::places_of_turns;
 use rb_code::{Code, Instr};
 use rb_syntax::Program;
 use std::alloc::Global;

@@ -5,14 +5,14 @@ ghost use Rattle.rb_outside.specs.Puts.{Puts};
 ghost use Rattle.rb_trace.specs.Fitting.{ProcessFits};
 ghost use Rattle.rb_trace.specs.Naming.{process_naming};
 ghost use Rattle.rb_world.specs.World.{last_of};
-ghost use Rattle.rb_picture.specs.Changes.{process_changes};
-ghost use Rattle.rb_picture.specs.Noted.{IsCountable, noted_of, shown_with};
+ghost use Rattle.rb_changes.specs.Changes.{process_changes};
+ghost use Rattle.rb_changes.specs.Noted.{IsCountable, noted_of, shown_with};
 
 use crate::held::{write_holding, write_standing};
-use crate::levels::write_levels;
-use crate::noted::ProcessWas;
-use crate::variables::write_variables;
 use rb_base::ProcessNames;
+use rb_changes::levels::write_levels;
+use rb_changes::noted::ProcessWas;
+use rb_changes::variables::write_variables;
 use rb_outside::{Failed, Sink};
 
 /// Writes what changed of a process since it was seen last: its variables, its levels, the lines that it holds, the last of which is given,

@@ -3,7 +3,7 @@
 ghost use Rattle.std.specs.Prelude.{◌<◌, [], ◌∷◌, ◌++◌, codes, decimal, length, map, Some};
 ghost use Rattle.rb_outside.specs.Puts.{Puts};
 ghost use Rattle.rb_trace.specs.Naming.{naming};
-ghost use Rattle.rb_picture.specs.Changes.{line_in};
+ghost use Rattle.rb_changes.specs.Changes.{line_in};
 ghost use Rattle.rb_picture.specs.declared.asked.Asked.TheVariants.{Line};
 ghost use Rattle.rb_picture.specs.Turns.{channel_word, place_word, took_words, turn_line, waiting_words};
 

@@ -12,11 +12,11 @@ use Rattle.rb_code.specs.Instructions.Variables.{VariablesLie}
 use Rattle.rb_code.specs.WordMachine.Turn.{Copy, Standing}
 use Rattle.rb_code.specs.WordMachine.Workspace.{part_of}
 use Rattle.rb_machine.specs.Machine.{Seen}
-use Rattle.rb_picture.specs.Noted.{IsCountable, noted_of, process_noted, shown_with}
-use Rattle.rb_picture.specs.Shown.{ChannelShown, channel_of, process_shown}
+use Rattle.rb_changes.specs.Noted.{IsCountable, noted_of, process_noted, shown_with}
+use Rattle.rb_changes.specs.Shown.{ChannelShown, channel_of, process_shown}
 use Rattle.rb_picture.specs.Trace.{word_reading}
-use Rattle.rb_picture.specs.declared.noted.Numbers.{Numbers}
-use Rattle.rb_picture.specs.declared.noted.ProcessWas.{ProcessWas}
+use Rattle.rb_changes.specs.declared.noted.Numbers.{Numbers}
+use Rattle.rb_changes.specs.declared.noted.ProcessWas.{ProcessWas}
 use Rattle.rb_view.specs.Noting.{IsReady}
 use Rattle.rb_view.specs.Steady.{IsSteady, last_in, noted_now, shown_now}
 use Rattle.rb_view.proofs.Changed.{image_at}

@@ -7,12 +7,12 @@ use Rattle.rb_base.specs.declared.names.Names.{Names}
 use Rattle.rb_trace.specs.Naming.{naming, process_naming}
 use Rattle.rb_world.specs.Text.{ProcessNaming}
 use Rattle.rb_machine.specs.Machine.{Seen}
-use Rattle.rb_picture.specs.Changes.{all_back, back_line, back_of, change_of, put_back}
-use Rattle.rb_picture.specs.Noted.{ProcessNoted, WorldNoted, noted_of, process_noted, shown_with}
-use Rattle.rb_picture.specs.Shown.{ProcessShown}
+use Rattle.rb_changes.specs.Changes.{all_back, back_line, back_of, change_of, put_back}
+use Rattle.rb_changes.specs.Noted.{ProcessNoted, WorldNoted, noted_of, process_noted, shown_with}
+use Rattle.rb_changes.specs.Shown.{ProcessShown}
 use Rattle.rb_picture.specs.Trace.{back_text}
-use Rattle.rb_picture.specs.declared.noted.OpenLevel.{OpenLevel}
-use Rattle.rb_picture.specs.declared.noted.ProcessWas.{ProcessWas}
+use Rattle.rb_changes.specs.declared.noted.OpenLevel.{OpenLevel}
+use Rattle.rb_changes.specs.declared.noted.ProcessWas.{ProcessWas}
 use Rattle.rb_view.specs.Noting.{back_shown, processes_noted}
 use Rattle.rb_view.specs.Steady.{noted_now, shown_now}
 use Rattle.rb_view.proofs.Changed.{numbered_same}

@@ -1,8 +1,8 @@
 -- What is told of two things that are there, and that nothing is told where one of them is not.
 use Rattle.std.proofs.Common.{◌≡◌, ℕ, ◌+◌, ◌≤◌, List, [], ◌∷◌, ◌++◌, length, map, slice_get, option_map, Option, Some, None, refl, ap, sym, ◌∙◌}
 use Rattle.std.proofs.lemmas.Option.{slice_get-map, slice_get_past}
-use Rattle.rb_picture.specs.Changes.{change_of}
-use Rattle.rb_picture.specs.Numbered.{numbered}
+use Rattle.rb_changes.specs.Changes.{change_of}
+use Rattle.rb_changes.specs.Numbered.{numbered}
 
 -- what is looked up among the images of a list
 pub image_at : {A B : Type 0} (f : A → B) (xs : List A) (k : ℕ) (o : Option A) → slice_get xs k ≡ o → slice_get (map f xs) k ≡ option_map f o

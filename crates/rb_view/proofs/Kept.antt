@@ -17,11 +17,11 @@ use Rattle.rb_machine.specs.Looking.{IsViewOn}
 use Rattle.rb_machine.specs.Reading.{variables_of}
 use Rattle.rb_machine.specs.Machine.{Seen}
 use Rattle.rb_machine.specs.declared.channels.looking.ChannelView.{ChannelView}
-use Rattle.rb_picture.specs.Noted.{ProcessNoted, noted_of, process_noted}
-use Rattle.rb_picture.specs.Shown.{ChannelShown, ProcessShown, channel_of, channels_shown, last_value, level_shown, process_shown}
+use Rattle.rb_changes.specs.Noted.{ProcessNoted, noted_of, process_noted}
+use Rattle.rb_changes.specs.Shown.{ChannelShown, ProcessShown, channel_of, channels_shown, last_value, level_shown, process_shown}
 use Rattle.rb_picture.specs.Trace.{word_reading}
-use Rattle.rb_picture.specs.declared.noted.Numbers.{Numbers}
-use Rattle.rb_picture.specs.declared.noted.ProcessWas.{ProcessWas}
+use Rattle.rb_changes.specs.declared.noted.Numbers.{Numbers}
+use Rattle.rb_changes.specs.declared.noted.ProcessWas.{ProcessWas}
 use Rattle.rb_view.specs.Noting.{processes_noted, words_long}
 use Rattle.rb_view.specs.Steady.{IsSteady, last_in, noted_now, shown_now}
 use Rattle.rb_view.proofs.Changed.{image_at}

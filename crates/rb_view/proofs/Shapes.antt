@@ -11,8 +11,8 @@ use Rattle.rb_code.specs.Instructions.Plain.{Code, Part}
 use Rattle.rb_code.specs.WordMachine.Turn.{Common, Copy, Standing}
 use Rattle.rb_code.specs.WordMachine.WordRun.{WordWorld}
 use Rattle.rb_code.specs.WordMachine.Workspace.{no_part, part_of}
-use Rattle.rb_picture.specs.Noted.{process_noted}
-use Rattle.rb_picture.specs.Shown.{Reading, channel_of, channels_shown, process_shown}
+use Rattle.rb_changes.specs.Noted.{process_noted}
+use Rattle.rb_changes.specs.Shown.{Reading, channel_of, channels_shown, process_shown}
 use Rattle.rb_picture.specs.Trace.{before_opening, process_before, word_reading}
 use Rattle.rb_machine.specs.Machine.{Seen}
 use Rattle.rb_view.specs.Noting.{talks_noted, words_long}

@@ -12,7 +12,7 @@ use Rattle.rb_code.specs.Instructions.Variables.{VariablesLie}
 use Rattle.rb_code.specs.WordMachine.Turn.{Copy, Standing}
 use Rattle.rb_code.specs.WordMachine.WordKind.{word_kind}
 use Rattle.rb_machine.specs.Machine.{HasTurned, Seen, turned}
-use Rattle.rb_picture.specs.Noted.{WorldNoted}
+use Rattle.rb_changes.specs.Noted.{WorldNoted}
 use Rattle.rb_picture.specs.Trace.{turn_of, turn_text, turn_texts, word_reading}
 use Rattle.rb_picture.specs.Turns.{asked_of}
 use Rattle.rb_picture.specs.declared.asked.Asked.{Asked}

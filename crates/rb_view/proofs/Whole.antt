@@ -15,10 +15,10 @@ use Rattle.rb_code.specs.WordMachine.WordRun.{opening_of, word_final, word_run}
 use Rattle.rb_code.specs.declared.code.Code.{Code as Held}
 use Rattle.rb_machine.specs.Machine.{Seen, opening_seen}
 use Rattle.rb_machine.specs.Worlds.{counts_of}
-use Rattle.rb_picture.specs.Changes.{changes}
+use Rattle.rb_changes.specs.Changes.{changes}
 use Rattle.rb_picture.specs.Head.{head_of, head_text, meetings}
 use Rattle.rb_picture.specs.Heads.{meeting}
-use Rattle.rb_picture.specs.Noted.{WorldNoted}
+use Rattle.rb_changes.specs.Noted.{WorldNoted}
 use Rattle.rb_picture.specs.Trace.{back_text, before_opening, opening_text, turn_texts, word_reading}
 use Rattle.rb_run.specs.Running.{NamesFit}
 use Rattle.rb_run.proofs.RunWritten.{first_text, is_old}

@@ -7,12 +7,12 @@ use Rattle.rb_base.specs.declared.limits.TheConstants.{MOST_HELD_BYTES, MOST_OPE
 use Rattle.rb_base.specs.declared.event.TurnKind.{TurnKind}
 use Rattle.rb_base.specs.declared.event.TurnKind.TheVariants.{Undone}
 use Rattle.rb_world.specs.Text.{ProcessNaming}
-use Rattle.rb_picture.specs.Changes.{all_back}
-use Rattle.rb_picture.specs.Noted.{ProcessNoted, WorldNoted, noted_of, talk_of}
-use Rattle.rb_picture.specs.Shown.{ProcessShown, unused}
-use Rattle.rb_picture.specs.declared.noted.Numbers.{Numbers}
-use Rattle.rb_picture.specs.declared.noted.ProcessWas.{ProcessWas}
-use Rattle.rb_picture.specs.declared.noted.TalkNoted.{TalkNoted}
+use Rattle.rb_changes.specs.Changes.{all_back}
+use Rattle.rb_changes.specs.Noted.{ProcessNoted, WorldNoted, noted_of, talk_of}
+use Rattle.rb_changes.specs.Shown.{ProcessShown, unused}
+use Rattle.rb_changes.specs.declared.noted.Numbers.{Numbers}
+use Rattle.rb_changes.specs.declared.noted.ProcessWas.{ProcessWas}
+use Rattle.rb_changes.specs.declared.noted.TalkNoted.{TalkNoted}
 use Rattle.rb_view.specs.declared.was.Noted.{Noted}
 
 -- processes and conversations in memory

@@ -8,8 +8,8 @@ use Rattle.rb_code.specs.SoundCode.WellFormed.{JoinsTwo}
 use Rattle.rb_code.specs.WordMachine.WordRun.{variable_words, word_run}
 use Rattle.rb_code.specs.WordMachine.Workspace.{part_of}
 use Rattle.rb_machine.specs.Machine.{Seen}
-use Rattle.rb_picture.specs.Noted.{WorldNoted, world_noted}
-use Rattle.rb_picture.specs.Shown.{WorldShown, world_shown}
+use Rattle.rb_changes.specs.Noted.{WorldNoted, world_noted}
+use Rattle.rb_changes.specs.Shown.{WorldShown, world_shown}
 use Rattle.rb_picture.specs.Trace.{word_reading}
 use Rattle.rb_view.specs.Noting.{words_long}
 

@@ -3,15 +3,15 @@
 ghost use Rattle.std.specs.Prelude.{[], map, slice_get};
 ghost use Rattle.rb_outside.specs.Puts.{Puts};
 ghost use Rattle.rb_trace.specs.Naming.{process_naming};
-ghost use Rattle.rb_picture.specs.Changes.{all_back, all_talks, back_of, change_of, talk_changes};
-ghost use Rattle.rb_picture.specs.Noted.{shown_with};
+ghost use Rattle.rb_changes.specs.Changes.{all_back, all_talks, back_of, change_of, talk_changes};
+ghost use Rattle.rb_changes.specs.Noted.{shown_with};
 ghost use Rattle.rb_view.specs.Noting.{back_shown, noted, processes_noted, talks_noted};
 
 use crate::was::Noted;
 use rb_base::{ProcessNames, Text, TurnKind};
 use rb_outside::{Failed, Sink};
-use rb_picture::between::write_talk;
-use rb_picture::levels::write_return;
+use rb_changes::between::write_talk;
+use rb_changes::levels::write_return;
 use rb_picture::{ProcessWas, TalkNoted};
 
 /// Writes which processes were put back, which only a turn does that was undone.

@@ -4,7 +4,7 @@ ghost use Rattle.std.specs.Prelude.{◌≡◌, ◌+◌, ◌<◌, ◌≤◌, [], 
 ghost use Rattle.rb_code.specs.Instructions.Plain.{code as plain};
 ghost use Rattle.rb_conv.specs.Conversations.{memberships, opening};
 ghost use Rattle.rb_outside.specs.Puts.{Puts};
-ghost use Rattle.rb_picture.specs.Changes.{changes};
+ghost use Rattle.rb_changes.specs.Changes.{changes};
 ghost use Rattle.rb_picture.specs.Trace.{back_text, before_opening, trace_text, turn_of, turn_texts, word_reading};
 ghost use Rattle.rb_trace.specs.Naming.{naming};
 ghost use Rattle.rb_trace.specs.Report.{told_of};

@@ -3,7 +3,7 @@
 ghost use Rattle.std.specs.Prelude.{◌≡◌, false, map, replicate, IfOk};
 ghost use Rattle.rb_code.specs.Instructions.Plain.{channel, code as plain, part};
 ghost use Rattle.rb_conv.specs.Conversations.{memberships, opening};
-ghost use Rattle.rb_picture.specs.Noted.{noted_of};
+ghost use Rattle.rb_changes.specs.Noted.{noted_of};
 ghost use Rattle.rb_picture.specs.Trace.{before_opening, fresh_process, process_before};
 ghost use Rattle.rb_view.specs.Steady.{IsSized, IsSteady, noted_now};
 ghost use Rattle.rb_view.specs.Noting.{AreReady, IsReady, first_numbers, noted, processes_noted};
@@ -48,7 +48,7 @@ impl Drop for Was {
 }
 
 impl Model for Was {
-    ghost use Rattle.rb_picture.specs.Noted.{WorldNoted};
+    ghost use Rattle.rb_changes.specs.Noted.{WorldNoted};
     ghost use Rattle.rb_view.specs.Noting.{IsKept, noted};
 
     ghost Value = { WorldNoted };

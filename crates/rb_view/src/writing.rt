@@ -6,7 +6,7 @@ ghost use Rattle.rb_code.specs.Instructions.Plain.{Part};
 ghost use Rattle.rb_code.specs.Instructions.Variables.{VariablesLie};
 ghost use Rattle.rb_outside.specs.Puts.{Puts};
 ghost use Rattle.rb_trace.specs.Naming.{naming, process_naming};
-ghost use Rattle.rb_picture.specs.Changes.{all_channels, all_processes, change_of, changes, channel_changes, process_changes};
+ghost use Rattle.rb_changes.specs.Changes.{all_channels, all_processes, change_of, changes, channel_changes, process_changes};
 ghost use Rattle.rb_picture.specs.Trace.{back_text};
 ghost use Rattle.rb_run.specs.Running.{NamesFit};
 ghost use Rattle.rb_view.specs.Noting.{AreReady, noted, processes_noted, talks_noted, words_long};
@@ -18,7 +18,7 @@ use crate::was::{Noted, Was};
 use rb_base::{Names, ProcessNames, Steps, Text, TurnKind};
 use rb_machine::Machine;
 use rb_outside::{Failed, Sink};
-use rb_picture::between::write_channel;
+use rb_changes::between::write_channel;
 use rb_picture::{Numbers, ProcessWas, write_process};
 use std::sync::ledger::Ledger;
 

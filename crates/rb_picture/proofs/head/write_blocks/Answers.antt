@@ -3,8 +3,8 @@ use Rattle.rb_trace.proofs.Written.{written_nothing, written_more, written_part,
 use Rattle.rb_trace.specs.Naming.{naming}
 use Rattle.rb_code.specs.Instructions.Plain.{block as plain_block}
 use Rattle.rb_picture.specs.Head.{block_head}
-use Rattle.rb_picture.specs.Numbered.{numbered}
-use Rattle.rb_picture.proofs.Parts.{numbered_end, numbered_next}
+use Rattle.rb_changes.specs.Numbered.{numbered}
+use Rattle.rb_changes.proofs.Parts.{numbered_end, numbered_next}
 use Rattle.rb_picture.proofs.head.write_blocks.Goals as goal
 
 pub loop-b-init : goal.loop-b-init

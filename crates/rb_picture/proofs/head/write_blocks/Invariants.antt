@@ -4,7 +4,7 @@ use Rattle.rb_trace.proofs.Written.{Written}
 use Rattle.rb_trace.specs.Naming.{naming}
 use Rattle.rb_code.specs.Instructions.Plain.{block as plain_block}
 use Rattle.rb_picture.specs.Head.{block_head}
-use Rattle.rb_picture.specs.Numbered.{numbered}
+use Rattle.rb_changes.specs.Numbered.{numbered}
 use Rattle.rb_picture.proofs.head.write_blocks.Given as goal
 
 abbrev pub invariant-loop-b : goal.invariant-loop-b

@@ -4,7 +4,7 @@ use Rattle.rb_trace.proofs.Written.{Written}
 use Rattle.rb_trace.specs.Naming.{naming}
 use Rattle.rb_code.specs.Instructions.Plain.{channel as plain_channel}
 use Rattle.rb_picture.specs.Head.{channel_head}
-use Rattle.rb_picture.specs.Numbered.{numbered}
+use Rattle.rb_changes.specs.Numbered.{numbered}
 use Rattle.rb_picture.proofs.head.write_channels.Given as goal
 
 abbrev pub invariant-loop-c : goal.invariant-loop-c

@@ -4,7 +4,7 @@ use Rattle.rb_trace.proofs.Written.{Written}
 use Rattle.rb_trace.specs.Naming.{naming}
 use Rattle.rb_picture.specs.Heads.{meeting}
 use Rattle.rb_picture.specs.Head.{conversation_head}
-use Rattle.rb_picture.specs.Numbered.{numbered}
+use Rattle.rb_changes.specs.Numbered.{numbered}
 use Rattle.rb_picture.proofs.head.write_conversations.Given as goal
 
 abbrev pub invariant-loop-d : goal.invariant-loop-d

@@ -6,7 +6,7 @@ use Rattle.rb_code.specs.declared.code.ChannelCode.{ChannelCode}
 use Rattle.rb_outside.proofs.Puts.{puts_both, puts_same, puts_stopped_at}
 use Rattle.rb_trace.specs.Naming.{naming, process_naming}
 use Rattle.rb_picture.specs.Head.{channel_head, process_head}
-use Rattle.rb_picture.specs.Numbered.{numbered}
+use Rattle.rb_changes.specs.Numbered.{numbered}
 use Rattle.rb_picture.proofs.head.write_head.Goals as goal
 
 pub returns-in_err-write_edition : goal.returns-in_err-write_edition

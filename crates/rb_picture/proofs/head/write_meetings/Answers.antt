@@ -6,7 +6,7 @@ use Rattle.rb_outside.proofs.Puts.{puts_both, puts_same, puts_stopped_at}
 use Rattle.rb_trace.specs.Naming.{naming}
 use Rattle.rb_picture.specs.Head.{block_head, conversation_head}
 use Rattle.rb_picture.specs.Heads.{meeting}
-use Rattle.rb_picture.specs.Numbered.{numbered}
+use Rattle.rb_changes.specs.Numbered.{numbered}
 use Rattle.rb_picture.proofs.head.write_meetings.Goals as goal
 
 pub returns-in_err-write_conversations : goal.returns-in_err-write_conversations

@@ -5,7 +5,7 @@ use Rattle.rb_trace.proofs.Written.{written_nothing, written_more, written_part,
 use Rattle.rb_trace.specs.Lines.{spaced_word}
 use Rattle.rb_trace.specs.Naming.{naming}
 use Rattle.rb_world.specs.Text.{process_word}
-use Rattle.rb_picture.proofs.Parts.{flat_end, flat_next}
+use Rattle.rb_changes.proofs.Parts.{flat_end, flat_next}
 use Rattle.rb_picture.proofs.head.write_members.Goals as goal
 
 pub loop-member-init : goal.loop-member-init

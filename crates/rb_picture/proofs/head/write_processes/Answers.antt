@@ -3,7 +3,7 @@ use Rattle.std.specs.List.{flat_map}
 use Rattle.rb_trace.proofs.Written.{written_nothing, written_more, written_part, written_all}
 use Rattle.rb_trace.specs.Naming.{process_naming}
 use Rattle.rb_picture.specs.Head.{process_head}
-use Rattle.rb_picture.proofs.Parts.{flat_end, flat_next}
+use Rattle.rb_changes.proofs.Parts.{flat_end, flat_next}
 use Rattle.rb_picture.proofs.head.write_processes.Goals as goal
 
 pub loop-process-init : goal.loop-process-init

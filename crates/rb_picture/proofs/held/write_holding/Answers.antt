@@ -1,7 +1,7 @@
 use Rattle.std.proofs.Common.{arith}
 use Rattle.std.specs.Prelude.{option_copied}
 use Rattle.rb_outside.proofs.Puts.{puts_both, puts_same}
-use Rattle.rb_picture.specs.Changes.{held_line, last_line}
+use Rattle.rb_changes.specs.Changes.{held_line, last_line}
 use Rattle.rb_picture.proofs.Holding.{one_more}
 use Rattle.rb_picture.proofs.held.write_holding.Goals as goal
 

@@ -1,9 +1,9 @@
 use Rattle.std.proofs.Common.{◌≡◌, ℕ, List, [], ◌∷◌, Bool, false, cond, ap, sym, ◌∙◌}
 use Rattle.std.specs.Prelude.{codes}
 use Rattle.rb_outside.proofs.Puts.{puts_same}
-use Rattle.rb_picture.specs.Changes.{is_same_stand, line_in, stand_words, state_line}
-use Rattle.rb_picture.specs.declared.noted.Stand.{Stand}
-use Rattle.rb_picture.specs.declared.noted.Stand.TheVariants.{Runs, AtLine, Done as IsDone, Failed as HasFailed}
+use Rattle.rb_changes.specs.Changes.{is_same_stand, line_in, stand_words, state_line}
+use Rattle.rb_changes.specs.declared.noted.Stand.{Stand}
+use Rattle.rb_changes.specs.declared.noted.Stand.TheVariants.{Runs, AtLine, Done as IsDone, Failed as HasFailed}
 use Rattle.rb_picture.proofs.held.write_standing.Goals as goal
 
 -- a process that stands in another way has a line that tells it

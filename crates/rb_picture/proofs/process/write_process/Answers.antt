@@ -2,7 +2,7 @@ use Rattle.std.proofs.Common.{◌++◌, map}
 use Rattle.std.specs.List.{flat_map}
 use Rattle.rb_outside.proofs.Puts.{puts_both, puts_same, puts_stopped_at}
 use Rattle.rb_trace.specs.Naming.{variable_naming}
-use Rattle.rb_picture.specs.Changes.{held_lines, levels_changes, state_line, variable_change}
+use Rattle.rb_changes.specs.Changes.{held_lines, levels_changes, state_line, variable_change}
 use Rattle.rb_picture.proofs.process.write_process.Goals as goal
 
 pub returns-in_err-write_variables : goal.returns-in_err-write_variables

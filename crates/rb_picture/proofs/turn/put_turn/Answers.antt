@@ -3,7 +3,7 @@ use Rattle.std.specs.Prelude.{decimal}
 use Rattle.std.proofs.lemmas.List.{length-map}
 use Rattle.rb_outside.proofs.Puts.{puts_both, puts_same, puts_stopped_at}
 use Rattle.rb_picture.specs.Turns.{place_word}
-use Rattle.rb_picture.proofs.Parts.{turn_joined}
+use Rattle.rb_changes.proofs.Parts.{turn_joined}
 use Rattle.rb_picture.proofs.turn.put_turn.Goals as goal
 
 pub returns-in_err-put_front : goal.returns-in_err-put_front

@@ -3,7 +3,7 @@ use Rattle.std.specs.Prelude.{codes}
 use Rattle.std.specs.Option.{unwrap_or}
 use Rattle.rb_outside.proofs.Puts.{puts_same}
 use Rattle.rb_trace.specs.Naming.{naming}
-use Rattle.rb_picture.specs.Changes.{line_in}
+use Rattle.rb_changes.specs.Changes.{line_in}
 use Rattle.rb_picture.specs.Turns.{place_word}
 use Rattle.rb_picture.proofs.Bare.{takes_step}
 use Rattle.rb_picture.proofs.turn.write_took.Goals as goal

@@ -1,7 +1,7 @@
 use Rattle.std.proofs.Common.{[], ap, length, map, take, ◌∙◌, arith, length-take}
 use Rattle.std.proofs.lemmas.List.{length-map, take_all}
 use Rattle.rb_world.proofs.ListFacts.{slice_get-there}
-use Rattle.rb_picture.specs.Shown.{level_shown}
+use Rattle.rb_changes.specs.Shown.{level_shown}
 use Rattle.rb_picture.specs.Trace.{word_reading}
 use Rattle.rb_view.proofs.Kept.{one_more}
 use Rattle.rb_view.proofs.noting.note_levels.Goals as goal

@@ -2,7 +2,7 @@
 use Rattle.std.proofs.Common.{◌≡◌, ◌≤◌, [], map, slice_get, take, vec_capacity, vec_len, Some}
 use Rattle.rb_world.specs.World.{Process}
 use Rattle.rb_code.specs.WordMachine.Turn.{Copy, Standing}
-use Rattle.rb_picture.specs.Shown.{level_shown}
+use Rattle.rb_changes.specs.Shown.{level_shown}
 use Rattle.rb_picture.specs.Trace.{word_reading}
 use Rattle.rb_view.proofs.noting.note_levels.Given as goal
 

@@ -2,7 +2,7 @@
 use Rattle.std.proofs.Common.{◌≡◌, ◌<◌, length, refl, slice_get, Some, ◌∙◌, arith}
 use Rattle.std.proofs.lemmas.List.{length-map}
 use Rattle.std.proofs.lemmas.Option.{slice_get_read}
-use Rattle.rb_picture.specs.Noted.{noted_of}
+use Rattle.rb_changes.specs.Noted.{noted_of}
 use Rattle.rb_view.specs.Noting.{IsReady, processes_noted, words_long}
 use Rattle.rb_view.specs.Steady.{noted_now}
 use Rattle.rb_view.proofs.Filling.{each_set, filled_all, images_more, numbers_stay}

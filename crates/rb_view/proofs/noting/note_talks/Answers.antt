@@ -1,7 +1,7 @@
 use Rattle.std.proofs.Common.{ap, sym, ◌∙◌, arith, Some}
 use Rattle.std.proofs.lemmas.List.{length-map}
 use Rattle.rb_world.proofs.ListFacts.{slice_get-there}
-use Rattle.rb_picture.specs.Noted.{talk_of}
+use Rattle.rb_changes.specs.Noted.{talk_of}
 use Rattle.rb_view.specs.Noting.{talks_noted}
 use Rattle.rb_view.proofs.Filling.{filled_all, images_more, long_set}
 use Rattle.rb_view.proofs.noting.note_talks.Goals as goal

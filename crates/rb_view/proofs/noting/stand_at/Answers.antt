@@ -1,5 +1,5 @@
 use Rattle.std.proofs.Common.{ap, sym, ◌∙◌}
-use Rattle.rb_picture.specs.Shown.{stand_of}
+use Rattle.rb_changes.specs.Shown.{stand_of}
 use Rattle.rb_world.specs.World.{ProcessStatus, Running}
 use Rattle.rb_view.proofs.noting.stand_at.Goals as goal
 

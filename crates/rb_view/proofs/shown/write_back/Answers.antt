@@ -2,8 +2,8 @@ use Rattle.std.proofs.Common.{[], ap, map, sym, ◌∙◌}
 use Rattle.rb_base.specs.declared.event.TurnKind.{TurnKind}
 use Rattle.rb_outside.proofs.Puts.{puts_same}
 use Rattle.rb_trace.specs.Naming.{process_naming}
-use Rattle.rb_picture.specs.Changes.{all_back}
-use Rattle.rb_picture.specs.Noted.{shown_with}
+use Rattle.rb_changes.specs.Changes.{all_back}
+use Rattle.rb_changes.specs.Noted.{shown_with}
 use Rattle.rb_view.specs.Noting.{back_shown, noted, processes_noted}
 use Rattle.rb_view.proofs.shown.write_back.Goals as goal
 

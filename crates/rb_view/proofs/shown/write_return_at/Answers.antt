@@ -2,8 +2,8 @@ use Rattle.std.proofs.Common.{[], ◌∙◌}
 use Rattle.rb_scope.proofs.Long.{got}
 use Rattle.rb_outside.proofs.Puts.{puts_nothing, puts_same}
 use Rattle.rb_trace.specs.Naming.{process_naming}
-use Rattle.rb_picture.specs.Changes.{back_line, back_of, put_back}
-use Rattle.rb_picture.specs.Noted.{noted_of, shown_with}
+use Rattle.rb_changes.specs.Changes.{back_line, back_of, put_back}
+use Rattle.rb_changes.specs.Noted.{noted_of, shown_with}
 use Rattle.rb_view.proofs.Changed.{both_read, first_past, second_past}
 use Rattle.rb_view.proofs.shown.write_return_at.Goals as goal
 

@@ -4,9 +4,9 @@ use Rattle.std.specs.Prelude.{slice_get}
 use Rattle.rb_trace.proofs.Written.{Written}
 use Rattle.rb_trace.specs.Naming.{process_naming}
 use Rattle.rb_world.specs.Text.{ProcessNaming}
-use Rattle.rb_picture.specs.Changes.{back_of, change_of}
-use Rattle.rb_picture.specs.Noted.{shown_with}
-use Rattle.rb_picture.specs.Numbered.{numbered}
+use Rattle.rb_changes.specs.Changes.{back_of, change_of}
+use Rattle.rb_changes.specs.Noted.{shown_with}
+use Rattle.rb_changes.specs.Numbered.{numbered}
 use Rattle.rb_view.specs.Noting.{processes_noted}
 use Rattle.rb_view.proofs.shown.write_returns.Given as goal
 

@@ -1,8 +1,8 @@
 use Rattle.std.proofs.Common.{ℕ, List, ap, ◌∙◌}
 use Rattle.rb_scope.proofs.Long.{got}
 use Rattle.rb_outside.proofs.Puts.{puts_nothing, puts_same}
-use Rattle.rb_picture.specs.Changes.{talk_changes}
-use Rattle.rb_picture.specs.Noted.{talk_of}
+use Rattle.rb_changes.specs.Changes.{talk_changes}
+use Rattle.rb_changes.specs.Noted.{talk_of}
 use Rattle.rb_view.proofs.Changed.{both_read, first_past, second_past}
 use Rattle.rb_view.proofs.shown.write_talk_at.Goals as goal
 

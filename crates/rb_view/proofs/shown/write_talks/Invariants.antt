@@ -2,8 +2,8 @@
 use Rattle.std.proofs.Common.{ℕ, List, drop}
 use Rattle.std.specs.Prelude.{slice_get}
 use Rattle.rb_trace.proofs.Written.{Written}
-use Rattle.rb_picture.specs.Changes.{change_of, talk_changes}
-use Rattle.rb_picture.specs.Numbered.{numbered}
+use Rattle.rb_changes.specs.Changes.{change_of, talk_changes}
+use Rattle.rb_changes.specs.Numbered.{numbered}
 use Rattle.rb_view.specs.Noting.{talks_noted}
 use Rattle.rb_view.proofs.shown.write_talks.Given as goal
 

@@ -10,7 +10,7 @@ use Rattle.rb_code.specs.Instructions.Plain.{Code}
 use Rattle.rb_machine.specs.Known.{IsSoundFor}
 use Rattle.rb_machine.specs.Machine.{Seen}
 use Rattle.rb_run.specs.Running.{NamesFit}
-use Rattle.rb_picture.specs.Changes.{changes}
+use Rattle.rb_changes.specs.Changes.{changes}
 use Rattle.rb_picture.specs.Trace.{address_told, back_text, place_at}
 use Rattle.rb_picture.specs.Turns.{turn_line}
 use Rattle.rb_run.proofs.TurnsTaken.{is_after, released_each}

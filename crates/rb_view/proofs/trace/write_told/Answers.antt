@@ -2,8 +2,8 @@
 use Rattle.std.proofs.Common.{ℕ, List, ◌++◌, ap, ◌∙◌}
 use Rattle.rb_outside.proofs.Puts.{puts_both, puts_same, puts_stopped_at}
 use Rattle.rb_trace.specs.Naming.{naming}
-use Rattle.rb_picture.specs.Changes.{changes}
-use Rattle.rb_picture.specs.Shown.{WorldShown}
+use Rattle.rb_changes.specs.Changes.{changes}
+use Rattle.rb_changes.specs.Shown.{WorldShown}
 use Rattle.rb_picture.specs.Trace.{back_text}
 use Rattle.rb_view.specs.Steady.{shown_now}
 use Rattle.rb_view.proofs.Turning.{fit_lines, noted_lines, on_ok_any, shown_lines, sized_lines, steady_lines}

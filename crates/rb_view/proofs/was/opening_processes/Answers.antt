@@ -1,6 +1,6 @@
 use Rattle.std.proofs.Common.{◌+◌, take, sym, ◌∙◌}
 use Rattle.rb_code.specs.Instructions.Plain.{part}
-use Rattle.rb_picture.specs.Noted.{noted_of}
+use Rattle.rb_changes.specs.Noted.{noted_of}
 use Rattle.rb_picture.specs.Trace.{process_before}
 use Rattle.rb_view.proofs.Filling.{each_pushed, map-map, pushed_more}
 use Rattle.rb_view.specs.Noting.{IsReady}

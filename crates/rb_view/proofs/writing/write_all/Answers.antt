@@ -2,7 +2,7 @@
 use Rattle.std.proofs.Common.{[], map, ap, ◌∙◌}
 use Rattle.rb_outside.proofs.Puts.{puts_both, puts_same, puts_stopped_at}
 use Rattle.rb_trace.specs.Naming.{process_naming}
-use Rattle.rb_picture.specs.Noted.{WorldNoted, shown_with}
+use Rattle.rb_changes.specs.Noted.{WorldNoted, shown_with}
 use Rattle.rb_view.specs.Noting.{back_shown, noted}
 use Rattle.rb_view.proofs.Back.{back_is}
 use Rattle.rb_view.proofs.writing.write_all.Goals as goal

@@ -7,9 +7,9 @@ use Rattle.rb_code.specs.Instructions.Variables.{VariablesLie}
 use Rattle.rb_outside.proofs.Puts.{puts_both, puts_same, puts_stopped_at}
 use Rattle.rb_trace.specs.Naming.{process_naming}
 use Rattle.rb_world.specs.World.{Talk}
-use Rattle.rb_picture.specs.Changes.{all_channels, all_processes, all_talks}
-use Rattle.rb_picture.specs.Noted.{WorldNoted}
-use Rattle.rb_picture.specs.declared.noted.ProcessWas.{ProcessWas}
+use Rattle.rb_changes.specs.Changes.{all_channels, all_processes, all_talks}
+use Rattle.rb_changes.specs.Noted.{WorldNoted}
+use Rattle.rb_changes.specs.declared.noted.ProcessWas.{ProcessWas}
 use Rattle.rb_view.specs.Noting.{AreReady, noted, processes_noted, talks_noted, words_long}
 use Rattle.rb_view.specs.Steady.{shown_now}
 use Rattle.rb_view.proofs.writing.write_changes.Goals as goal

@@ -4,7 +4,7 @@ use Rattle.std.specs.Prelude.{slice_get}
 use Rattle.std.proofs.lemmas.Option.{slice_get_past}
 use Rattle.rb_scope.proofs.Long.{got}
 use Rattle.rb_outside.proofs.Puts.{puts_nothing, puts_same}
-use Rattle.rb_picture.specs.Changes.{channel_changes}
+use Rattle.rb_changes.specs.Changes.{channel_changes}
 use Rattle.rb_view.specs.Steady.{shown_now}
 use Rattle.rb_view.proofs.AtNumber.{channel_few, channel_kept, no_channel}
 use Rattle.rb_view.proofs.Changed.{both_there, none_after, none_before}

@@ -1,10 +1,10 @@
 use Rattle.std.proofs.Common.{ℕ, List, ◌+◌, drop, arith}
 use Rattle.std.specs.Prelude.{slice_get}
 use Rattle.rb_trace.proofs.Written.{written_nothing, written_more, written_part, written_all}
-use Rattle.rb_picture.specs.Changes.{change_of, channel_changes}
+use Rattle.rb_changes.specs.Changes.{change_of, channel_changes}
 use Rattle.rb_view.specs.Steady.{shown_now}
-use Rattle.rb_picture.specs.Numbered.{numbered}
-use Rattle.rb_picture.proofs.Parts.{numbered_at, numbered_over}
+use Rattle.rb_changes.specs.Numbered.{numbered}
+use Rattle.rb_changes.proofs.Parts.{numbered_at, numbered_over}
 use Rattle.rb_view.proofs.writing.write_channels.Goals as goal
 
 pub loop-c-init : goal.loop-c-init

@@ -2,8 +2,8 @@
 use Rattle.std.proofs.Common.{ℕ, List, drop}
 use Rattle.std.specs.Prelude.{slice_get}
 use Rattle.rb_trace.proofs.Written.{Written}
-use Rattle.rb_picture.specs.Changes.{change_of, channel_changes}
-use Rattle.rb_picture.specs.Numbered.{numbered}
+use Rattle.rb_changes.specs.Changes.{change_of, channel_changes}
+use Rattle.rb_changes.specs.Numbered.{numbered}
 use Rattle.rb_view.specs.Steady.{shown_now}
 use Rattle.rb_view.proofs.writing.write_channels.Given as goal
 

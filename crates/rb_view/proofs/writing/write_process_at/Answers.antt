@@ -3,9 +3,9 @@ use Rattle.std.proofs.lemmas.Option.{slice_get_past, slice_get_within}
 use Rattle.rb_scope.proofs.Long.{got}
 use Rattle.rb_outside.proofs.Puts.{puts_nothing, puts_same}
 use Rattle.rb_trace.specs.Naming.{process_naming}
-use Rattle.rb_picture.specs.Changes.{process_changes}
-use Rattle.rb_picture.specs.Noted.{ProcessNoted, noted_of}
-use Rattle.rb_picture.specs.Shown.{process_shown}
+use Rattle.rb_changes.specs.Changes.{process_changes}
+use Rattle.rb_changes.specs.Noted.{ProcessNoted, noted_of}
+use Rattle.rb_changes.specs.Shown.{process_shown}
 use Rattle.rb_picture.specs.Trace.{word_reading}
 use Rattle.rb_view.specs.Noting.{processes_noted}
 use Rattle.rb_view.specs.Steady.{shown_now}

@@ -5,9 +5,9 @@ use Rattle.std.specs.Prelude.{slice_get}
 use Rattle.rb_trace.proofs.Written.{written_nothing, written_more, written_part, written_all}
 use Rattle.rb_trace.specs.Naming.{process_naming}
 use Rattle.rb_world.specs.Text.{ProcessNaming}
-use Rattle.rb_picture.specs.Changes.{change_of, process_changes}
-use Rattle.rb_picture.specs.Numbered.{numbered}
-use Rattle.rb_picture.proofs.Parts.{numbered_end, numbered_next}
+use Rattle.rb_changes.specs.Changes.{change_of, process_changes}
+use Rattle.rb_changes.specs.Numbered.{numbered}
+use Rattle.rb_changes.proofs.Parts.{numbered_end, numbered_next}
 use Rattle.rb_view.specs.Noting.{processes_noted}
 use Rattle.rb_view.specs.Steady.{shown_now}
 use Rattle.rb_view.proofs.writing.write_processes.Goals as goal

@@ -4,8 +4,8 @@ use Rattle.std.specs.Prelude.{slice_get}
 use Rattle.rb_trace.proofs.Written.{Written}
 use Rattle.rb_trace.specs.Naming.{process_naming}
 use Rattle.rb_world.specs.Text.{ProcessNaming}
-use Rattle.rb_picture.specs.Changes.{change_of, process_changes}
-use Rattle.rb_picture.specs.Numbered.{numbered}
+use Rattle.rb_changes.specs.Changes.{change_of, process_changes}
+use Rattle.rb_changes.specs.Numbered.{numbered}
 use Rattle.rb_view.specs.Noting.{processes_noted}
 use Rattle.rb_view.specs.Steady.{shown_now}
 use Rattle.rb_view.proofs.writing.write_processes.Given as goal

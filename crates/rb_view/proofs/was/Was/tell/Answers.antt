@@ -2,8 +2,8 @@
 use Rattle.std.proofs.Common.{◌++◌, ◌∙◌, sym, ap, subst}
 use Rattle.rb_outside.proofs.Puts.{puts_same}
 use Rattle.rb_trace.specs.Naming.{naming}
-use Rattle.rb_picture.specs.Changes.{changes}
-use Rattle.rb_picture.specs.Noted.{WorldNoted}
+use Rattle.rb_changes.specs.Changes.{changes}
+use Rattle.rb_changes.specs.Noted.{WorldNoted}
 use Rattle.rb_picture.specs.Trace.{back_text}
 use Rattle.rb_view.specs.Steady.{IsSized, shown_now}
 use Rattle.rb_view.proofs.was.Was.tell.Goals as goal

@@ -1,0 +1,4 @@
+pub mod Numbered
+pub mod Shown
+pub mod Noted
+pub mod Changes

@@ -1,8 +1,0 @@
-use Rattle.rb_picture.proofs.change.write_alternate.Goals as goal
-
-pub returns : goal.returns
-returns g c =
-    rw (
-      ← c.format.ensures.text,
-      ← c.as_bytes-alternate.ensures.value,
-    ) c.put_changed.ensures

@@ -1,4 +1,0 @@
-use Rattle.rb_picture.proofs.levels.write_changed.Goals as goal
-
-pub returns : goal.returns
-returns g c = rw (← c.level_at.ensures) c.write_if_other.ensures
