@@ -9,9 +9,9 @@ ghost use Rattle.rb_view.specs.Noting.{back_shown, noted, processes_noted, talks
 
 use crate::was::Noted;
 use rb_base::{ProcessNames, Text, TurnKind};
-use rb_outside::{Failed, Sink};
 use rb_changes::between::write_talk;
 use rb_changes::levels::write_return;
+use rb_outside::{Failed, Sink};
 use rb_picture::{ProcessWas, TalkNoted};
 
 /// Writes which processes were put back, which only a turn does that was undone.

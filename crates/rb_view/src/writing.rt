@@ -16,9 +16,9 @@ use crate::noting::note;
 use crate::shown::{write_back, write_talks};
 use crate::was::{Noted, Was};
 use rb_base::{Names, ProcessNames, Steps, Text, TurnKind};
+use rb_changes::between::write_channel;
 use rb_machine::Machine;
 use rb_outside::{Failed, Sink};
-use rb_changes::between::write_channel;
 use rb_picture::{Numbers, ProcessWas, write_process};
 use std::sync::ledger::Ledger;
 
