@@ -15,9 +15,9 @@ use Rattle.rb_code.specs.Instructions.Plain.{Code}
 use Rattle.rb_code.specs.WordMachine.Turn.{Common, Copy, Standing}
 use Rattle.rb_code.specs.WordMachine.WordKind.{word_kind}
 use Rattle.rb_code.specs.WordMachine.WordRun.{WordWorld, opening_of, variable_words, word_run}
-use Rattle.rb_machine.specs.Known.{IsSoundFor}
+use Rattle.rb_recovery.specs.Known.{IsSoundFor}
 use Rattle.rb_machine.specs.Machine.{HasTurned, Seen, opening_seen, turned}
-use Rattle.rb_machine.specs.Reading.{states_of, variables_of}
+use Rattle.rb_recovery.specs.Reading.{states_of, variables_of}
 use Rattle.rb_run.proofs.TurnsTaken.{after_turn, is_after}
 use Rattle.rb_run.proofs.TurnsUnseen.{none_waiting, rest_same}
 use Rattle.rb_back.specs.declared.session.Turn.{Turn}

@@ -5,7 +5,7 @@ use Rattle.std.proofs.lemmas.List.{length-append, take-append-le, take-take}
 use Rattle.rb_world.specs.Kind.{Membership}
 use Rattle.rb_code.specs.Instructions.Plain.{Code}
 use Rattle.rb_code.specs.WordMachine.WordRun.{word_run}
-use Rattle.rb_machine.specs.Reading.{states_of, variables_of}
+use Rattle.rb_recovery.specs.Reading.{states_of, variables_of}
 use Rattle.rb_back.specs.Course.{Course, stepped}
 use Rattle.rb_back.specs.Laws.{BackBehindStep, Reaches, ViewIsOfRun, back, forth, loaded}
 use Rattle.rb_back.proofs.Mixed.{take_next}

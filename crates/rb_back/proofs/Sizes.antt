@@ -18,7 +18,7 @@ use Rattle.rb_code.specs.WordMachine.WordKind.{word_kind}
 use Rattle.rb_code.specs.WordMachine.WordRun.{opening_of, variable_words, word_run}
 use Rattle.rb_code.specs.WordMachine.Workspace.{no_part, part_of}
 use Rattle.rb_code.proofs.WholeRuns.ProcessesBegin.{all_there}
-use Rattle.rb_machine.specs.Reading.{states_of, variables_of}
+use Rattle.rb_recovery.specs.Reading.{states_of, variables_of}
 use Rattle.rb_machine.proofs.Knowing.Sizes.{opening-processes}
 use Rattle.rb_run.proofs.OwnWords.{HasOwnWords, runs_own, variables_long}
 use Rattle.rb_back.specs.Journal.{words_of}

@@ -24,7 +24,7 @@ use Rattle.rb_world.specs.Text.{Naming, ProcessNaming}
 use Rattle.rb_meaning.specs.Meaning.{standing}
 use Rattle.rb_code.specs.Instructions.Plain.{Code}
 use Rattle.rb_code.specs.WordMachine.WordRun.{word_final, word_run}
-use Rattle.rb_machine.specs.Known.{IsSoundFor}
+use Rattle.rb_recovery.specs.Known.{IsSoundFor}
 use Rattle.rb_code.specs.Instructions.Variables.{VariablesLie}
 use Rattle.rb_run.specs.Running.{NamesFit}
 use Rattle.rb_run.proofs.EndingFits.{ending_fits}

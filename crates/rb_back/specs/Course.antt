@@ -5,7 +5,7 @@ use Rattle.rb_base.specs.declared.event.State.{State}
 use Rattle.rb_world.specs.Kind.{Membership}
 use Rattle.rb_code.specs.Instructions.Plain.{Code}
 use Rattle.rb_code.specs.WordMachine.WordRun.{WordWorld, word_run}
-use Rattle.rb_machine.specs.Reading.{states_of, variables_of}
+use Rattle.rb_recovery.specs.Reading.{states_of, variables_of}
 use Rattle.rb_back.specs.Noting.{changed}
 
 -- its code and conversations, how many turns it may take, the processes of those that it took, and its position among them

@@ -4,9 +4,9 @@ use Rattle.rb_world.specs.Kind.{Membership}
 use Rattle.rb_world.specs.Standing.{Each}
 use Rattle.rb_code.specs.Instructions.Plain.{Code, Part}
 use Rattle.rb_code.specs.WordMachine.WordRun.{word_run}
-use Rattle.rb_machine.specs.Known.{IsSoundFor}
+use Rattle.rb_recovery.specs.Known.{IsSoundFor}
 use Rattle.rb_machine.specs.Machine.{Seen, opening_seen}
-use Rattle.rb_machine.specs.Reading.{states_of, variables_of}
+use Rattle.rb_recovery.specs.Reading.{states_of, variables_of}
 use Rattle.rb_back.specs.declared.session.Turn.{Turn}
 use Rattle.rb_back.specs.declared.view.Change.{Change}
 use Rattle.rb_back.specs.Course.{Course}

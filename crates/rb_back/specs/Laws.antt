@@ -5,7 +5,7 @@ use Rattle.rb_world.specs.Kind.{Membership}
 use Rattle.rb_meaning.specs.Groups.{groups_of}
 use Rattle.rb_code.specs.Instructions.Plain.{Code}
 use Rattle.rb_code.specs.WordMachine.WordRun.{word_run}
-use Rattle.rb_machine.specs.Reading.{states_of, variables_of}
+use Rattle.rb_recovery.specs.Reading.{states_of, variables_of}
 use Rattle.rb_prepare.specs.Laws.{OfEveryCode}
 use Rattle.rb_back.specs.declared.order.Order.{Order}
 use Rattle.rb_back.specs.Course.{Course, MayStep, opening_course, shown_states, shown_variables, stepped, went_back}

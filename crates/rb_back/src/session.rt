@@ -6,8 +6,8 @@ ghost use Rattle.rb_code.specs.Instructions.Plain.{code as plain};
 ghost use Rattle.rb_code.specs.SoundCode.WellFormed.{IsSound};
 ghost use Rattle.rb_code.specs.WordMachine.Turn.{Copy, Standing};
 ghost use Rattle.rb_conv.specs.Conversations.{memberships, opening};
-ghost use Rattle.rb_machine.specs.Known.{IsSoundFor};
-ghost use Rattle.rb_machine.specs.Worlds.{counts_of};
+ghost use Rattle.rb_recovery.specs.Known.{IsSoundFor};
+ghost use Rattle.rb_recovery.specs.Worlds.{counts_of};
 ghost use Rattle.rb_back.specs.Course.{MayStep, changed_words, opening_course, stepped, went_back};
 ghost use Rattle.rb_back.specs.Journal.{words_of};
 ghost use Rattle.rb_back.specs.Others.{all_keep_others, keeps_others};
@@ -201,7 +201,7 @@ impl<'a, L: Ledger> Session<'a, L> {
 
 // How a session stands at its position; what was sent and taken is that of its last turn.
 impl<'a, L: Ledger> Final for Session<'a, L> {
-    ghost use Rattle.rb_machine.specs.Reading.{sent_of, taken_of};
+    ghost use Rattle.rb_recovery.specs.Reading.{sent_of, taken_of};
     ghost use Rattle.rb_back.specs.Course.{farthest_world, shown_states, shown_variables};
 
     type Ledger = L;

@@ -4,7 +4,7 @@ ghost use Rattle.rb_base.specs.declared.limits.TheConstants.{MOST_TURNS};
 ghost use Rattle.rb_code.specs.Instructions.Plain.{code as plain};
 ghost use Rattle.rb_code.specs.WordMachine.WordRun.{word_run};
 ghost use Rattle.rb_conv.specs.Conversations.{memberships, opening};
-ghost use Rattle.rb_machine.specs.Survivors.{word_survivors};
+ghost use Rattle.rb_recovery.specs.Survivors.{word_survivors};
 ghost use Rattle.rb_prepare.specs.Prepared.{IsPrepared};
 ghost use Rattle.rb_world.specs.Text.{record_text};
 ghost use Rattle.rb_stages.specs.Judgement.{Writes};

@@ -3,4 +3,3 @@ pub mod ExecutableCode
 pub mod FirstProcesses
 pub mod Opens
 pub mod MachineRuns
-pub mod SomeCode

@@ -1,9 +1,5 @@
--- Lemmas of the machine. First small facts of lists, words and worlds.
-pub mod Changed
-pub mod InOrder
 pub mod Written
 pub mod WordsKept
-pub mod SeenWorlds
 pub mod ReadAt
 pub mod Looked
 -- A load, and turns one after another.
@@ -12,7 +8,6 @@ pub mod Beginning
 pub mod Knowing
 -- One turn: by what stands first, through rejections and messages, to what is released.
 pub mod Turning
-pub mod Rejecting
 pub mod Passing
 pub mod Releasing
 -- Turns that change nothing.

@@ -10,8 +10,8 @@ use Rattle.rb_code.specs.Instructions.Plain.{Code}
 use Rattle.rb_code.specs.WordMachine.Turn.{Copy, Standing}
 use Rattle.rb_code.specs.WordMachine.WordRun.{variable_words}
 use Rattle.rb_proc.specs.Process.{Seen}
-use Rattle.rb_machine.specs.Reading.{states_of, variables_of}
-use Rattle.rb_machine.specs.Worlds.{processes_of}
+use Rattle.rb_recovery.specs.Reading.{states_of, variables_of}
+use Rattle.rb_recovery.specs.Worlds.{processes_of}
 
 -- a process by its number
 pub process_there : (procs : List Seen) (p : ℕ) (one : Seen) → slice_get procs p ≡ Some one → slice_get (processes_of procs) p ≡ Some one.process

@@ -4,6 +4,5 @@ pub mod Finished
 pub mod Quiet
 pub mod Waited
 pub mod Dropped
-pub mod LinesLent
 pub mod Released
 pub mod LentAtWork

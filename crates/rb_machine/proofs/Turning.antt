@@ -3,12 +3,10 @@ pub mod Acting
 pub mod Entering
 pub mod Entered
 pub mod TakenSteps
-pub mod TestLines
 pub mod TurnsTaken
 pub mod TurnOfParts
 pub mod StepTaken
 pub mod ReadyFor
-pub mod InnermostLevel
 pub mod StepFacts
 pub mod StepLinks
 pub mod Ended

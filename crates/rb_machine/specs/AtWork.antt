@@ -10,9 +10,9 @@ use Rattle.rb_conv.specs.Conversations.{Conversation, memberships}
 use Rattle.rb_proc.specs.Executable.{IsExecutable}
 use Rattle.rb_proc.specs.Process.{Seen}
 use Rattle.rb_proc.specs.Sees.{AreSized}
-use Rattle.rb_machine.specs.Known.{IsKnown}
-use Rattle.rb_machine.specs.Worlds.{counts_of, memory_of, world_of}
-use Rattle.rb_machine.specs.declared.links.Link.{Link}
+use Rattle.rb_recovery.specs.Known.{IsKnown}
+use Rattle.rb_recovery.specs.Worlds.{counts_of, memory_of, world_of}
+use Rattle.rb_recovery.specs.declared.links.Link.{Link}
 
 -- no block has so many alternates that the number of one could not rise
 abbrev pub HasFewAlternates : Code → Type 0

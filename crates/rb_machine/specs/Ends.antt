@@ -18,19 +18,20 @@ use Rattle.rb_proc.specs.Executable.{IsExecutable}
 use Rattle.rb_proc.specs.Process.{Seen}
 use Rattle.rb_proc.specs.Sees.{AreSized}
 use Rattle.rb_machine.specs.AtWork.{IsAtWork, MayAct}
-use Rattle.rb_machine.specs.Cascade.{AreQuiet, MayRejectAt, SameGroups}
-use Rattle.rb_machine.specs.Channels.{conversation_in}
-use Rattle.rb_machine.specs.Links.{HasRoom}
-use Rattle.rb_machine.specs.Moves.{AreAtWork, HasMoved, IsLeft, world}
-use Rattle.rb_machine.specs.Stepping.{HoldsTest, IsListed, MayLeave}
+use Rattle.rb_recovery.specs.Cascade.{AreQuiet, MayRejectAt, SameGroups}
+use Rattle.rb_recovery.specs.Channels.{conversation_in}
+use Rattle.rb_recovery.specs.Links.{HasRoom}
+use Rattle.rb_machine.specs.Moves.{AreAtWork, HasMoved, IsLeft}
+use Rattle.rb_recovery.specs.Parts.{world}
+use Rattle.rb_recovery.specs.TestLines.{HoldsTest, IsListed, MayLeave}
 use Rattle.rb_machine.specs.Telling.{AreFreed, GoesOn, IsQuiet, running_of}
 use Rattle.rb_machine.specs.Turns.{runs_there}
-use Rattle.rb_machine.specs.Work.{named_accepted, releasing, undoing}
-use Rattle.rb_machine.specs.Worlds.{NoneWaits, kind_with, lines_of, memory_of, processes_of}
+use Rattle.rb_recovery.specs.Work.{named_accepted, releasing, undoing}
+use Rattle.rb_recovery.specs.Worlds.{NoneWaits, kind_with, lines_of, memory_of, processes_of}
 use Rattle.rb_machine.specs.declared.came.Came.{Came}
 use Rattle.rb_machine.specs.declared.moves.Move.{Move}
 use Rattle.rb_machine.specs.declared.moves.Move.TheVariants as did
-use Rattle.rb_machine.specs.declared.parts.Parts.{Parts}
+use Rattle.rb_recovery.specs.declared.parts.Parts.{Parts}
 
 -- a process that took a step goes on, and there is nothing to tell and nothing to release
 pub record HasGone {L : Type 0} (p : ℕ) (parts : Parts L) (moved : Moved Standing Copy Common) : Type 0 where

@@ -1,25 +1,13 @@
--- What is said of the machine.
-pub mod Links
-pub mod Linked
-pub mod Known
-pub mod Worlds
-pub mod Cascade
 pub mod Receipts
-pub mod Rejections
-pub mod Channels
 pub mod AtWork
 pub mod Moves
-pub mod Work
 pub mod Telling
 pub mod Loading
 pub mod Stepping
-pub mod Reading
 pub mod Looking
 pub mod Resting
 pub mod Machine
 pub mod Entries
 pub mod Turns
 pub mod Ends
-pub mod Rising
-pub mod Survivors
 pub mod TurnLaws

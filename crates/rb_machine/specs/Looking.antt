@@ -8,8 +8,8 @@ use Rattle.rb_code.specs.Instructions.Plain.{Code}
 use Rattle.rb_code.specs.WordMachine.Turn.{Copy, Standing}
 use Rattle.rb_code.specs.WordMachine.WordKind.{word_kind}
 use Rattle.rb_proc.specs.Process.{Seen}
-use Rattle.rb_machine.specs.Known.{CursorsBelow}
-use Rattle.rb_machine.specs.declared.channels.looking.ChannelView.{ChannelView}
+use Rattle.rb_recovery.specs.Known.{CursorsBelow}
+use Rattle.rb_machine.specs.declared.channel_view.ChannelView.{ChannelView}
 
 -- Of a channel from process s to process r: what was sent and taken, what the receiver can see, and for how many more there is room.
 pub record IsViewBetween (c : Code) (groups : List Membership) (channel : ℕ) (ends : Ends) (s r : Process Standing Copy) (view : ChannelView) : Type 0 where

@@ -8,12 +8,12 @@ use Rattle.rb_code.specs.WordMachine.WordKind.{word_kind}
 use Rattle.rb_code.specs.WordMachine.WordRun.{WordWorld, opening_of, word_run}
 use Rattle.rb_conv.specs.Conversations.{memberships}
 use Rattle.rb_machine.specs.AtWork.{IsAtWork}
-use Rattle.rb_machine.specs.Moves.{world}
+use Rattle.rb_recovery.specs.Parts.{world}
 use Rattle.rb_machine.specs.Resting.{AllRest, AreNoted, AreTallied}
 use Rattle.rb_machine.specs.Telling.{AreFreed, running_of}
-use Rattle.rb_machine.specs.Work.{enters_there}
-use Rattle.rb_machine.specs.Worlds.{NoneWaits, lines_of, processes_of}
-use Rattle.rb_machine.specs.declared.parts.Parts.{Parts}
+use Rattle.rb_recovery.specs.Work.{enters_there}
+use Rattle.rb_recovery.specs.Worlds.{NoneWaits, lines_of, processes_of}
+use Rattle.rb_recovery.specs.declared.parts.Parts.{Parts}
 use Rattle.rb_machine.specs.declared.rests.Resting.{Resting}
 
 pub record Seen : Type 0 where

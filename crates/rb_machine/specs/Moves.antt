@@ -17,27 +17,20 @@ use Rattle.rb_proc.specs.Process.{Seen, alternate_for, wanted_by}
 use Rattle.rb_proc.specs.declared.answers.Wanted.{Wanted}
 use Rattle.rb_proc.specs.Sees.{AreSized}
 use Rattle.rb_machine.specs.AtWork.{IsAtWork, IsStep}
-use Rattle.rb_machine.specs.Cascade.{SameGroups}
-use Rattle.rb_machine.specs.Work.{named_by_acts, named_by_steps}
-use Rattle.rb_machine.specs.Worlds.{NoneWaits, memory_of, world_of}
+use Rattle.rb_recovery.specs.Cascade.{SameGroups}
+use Rattle.rb_recovery.specs.Parts.{world}
+use Rattle.rb_recovery.specs.TestLines.{passes_of}
+use Rattle.rb_recovery.specs.Work.{named_by_acts, named_by_steps}
+use Rattle.rb_recovery.specs.Worlds.{NoneWaits, world_of}
 use Rattle.rb_machine.specs.declared.came.Came.{Came}
 use Rattle.rb_machine.specs.declared.moves.ReadyFor.{ReadyFor}
 use Rattle.rb_machine.specs.declared.moves.ReadyFor.TheVariants as ready
-use Rattle.rb_machine.specs.declared.parts.Parts.{Parts}
-
--- the world that parts stand for
-abbrev pub world : {L : Type 0} → Parts L → WordWorld
-world parts = world_of parts.procs.items parts.table (memory_of parts.mails parts.links.items)
+use Rattle.rb_recovery.specs.declared.parts.Parts.{Parts}
 
 -- the parts stand for a world of a run before turn number t, and no released line waits
 pub record AreAtWork {L : Type 0} (c : Code) (t : ℕ) (parts : Parts L) : Type 0 where
   pub work : IsAtWork c t parts.procs.items parts.table parts.mails parts.links.items
   pub waits : NoneWaits parts.procs.items
-
--- the pass of a turn, if a test line was passed
-abbrev pub passes_of : Option Event → List Event
-passes_of None = []
-passes_of (Some event) = event ∷ []
 
 -- what a turn of process number p comes to, which is there
 abbrev pub MovesAt : {L : Type 0} → Parts L → ℕ → (Process Standing Copy → WordWorld → Moved Standing Copy Common)
@@ -83,10 +76,6 @@ IsEntryReady (ready.Enters b) = Unit {0}
 IsEntryReady ready.Idle = ⊥
 IsEntryReady ready.Waits = ⊥
 IsEntryReady (ready.Steps message) = ⊥
-
--- what process number p wants
-abbrev pub WantsThere : Code → List Seen → ℕ → Wanted → Type 0
-WantsThere c procs p wanted = (one : Seen) → slice_get procs p ≡ Some one → wanted ≡ wanted_by (want c one.process.state)
 
 -- where process number p takes a message of a channel it is the receiver
 abbrev pub IsReceiverIf : Code → ℕ → Want → Type 0

@@ -1,4 +1,4 @@
--- What a step of a process asks for and leaves, and an acceptance test that held.
+-- What a step of a process asks for and leaves.
 use Rattle.std.specs.Prelude.{◌≡◌, ℕ, ◌<◌, ℤ, true, false, List, [], ◌∷◌, ◌++◌, length, Option, Some, None}
 use Rattle.rb_base.specs.declared.event.Event.{Event}
 use Rattle.rb_base.specs.declared.event.TurnKind.TheVariants.{Took}
@@ -17,24 +17,11 @@ use Rattle.rb_proc.specs.Views.{IsViewOf}
 use Rattle.rb_proc.specs.declared.answers.LevelView.{LevelView}
 use Rattle.rb_proc.specs.declared.answers.Outcome.{Outcome}
 use Rattle.rb_proc.specs.declared.answers.Outcome.TheVariants as outcome
-use Rattle.rb_machine.specs.Moves.{passes_of}
 use Rattle.rb_machine.specs.Telling.{GoesOn}
-use Rattle.rb_machine.specs.Worlds.{world_of}
-use Rattle.rb_machine.specs.declared.links.Link.{Link}
+use Rattle.rb_recovery.specs.Worlds.{world_of}
+use Rattle.rb_recovery.specs.declared.links.Link.{Link}
 use Rattle.rb_machine.specs.declared.moves.Move.{Move}
 use Rattle.rb_machine.specs.declared.moves.Move.TheVariants as did
-
--- these are the levels' innermost one, if there is one
-abbrev pub IsInnermost : Option (Level Copy) → Option LevelView → Type 0
-IsInnermost None None = Unit {0}
-IsInnermost None (Some view) = ⊥
-IsInnermost (Some level) None = ⊥
-IsInnermost (Some level) (Some view) = IsViewOf (Some level) view
-
--- the alternate that a level tries, and 0 without a level
-abbrev pub tried_by : Option LevelView → ℕ
-tried_by None = 0
-tried_by (Some view) = view.alternate
 
 -- all that a step of a process asks for
 pub record MayStep (c : Code) (message : Option ℤ) (one : Seen) : Type 0 where
@@ -83,44 +70,3 @@ AddsLink did.Went link links links' = links' ≡ links ++ link ∷ []
 AddsLink did.Tells link links links' = links' ≡ links ++ link ∷ []
 AddsLink did.Accepts link links links' = links' ≡ links ++ link ∷ []
 AddsLink (did.Enters b) link links links' = links' ≡ links ++ link ∷ []
-
--- once the innermost level goes the process settles
-abbrev pub SettlesOnceAccepted : Code → Process Standing Copy → Type 0
-SettlesOnceAccepted c q =
-    (groups : List Membership) × SettlesSoundly c groups (record q.state { touched = accepted q.state.touched }) (without_last q.levels)
-
--- who stands at a test line may leave it
-abbrev pub MayLeave : Code → ℕ → Seen → Type 0
-MayLeave c r one = one.process.at_line ≡ true → SettlesOnceAccepted c one.process
-
--- the test of an innermost level held
-pub record HoldsTest (c : Code) (one : Seen) : Type 0 where
-  pub inside : 0 < length one.process.levels
-  pub settles : SettlesOnceAccepted c one.process
-
--- a conversation is one of so many, if there is one
-abbrev pub IsListed : ℕ → Option ℕ → Type 0
-IsListed n None = Unit {0}
-IsListed n (Some d) = d < n
-
--- the process once its innermost level has gone
-abbrev pub level_gone : Code → Seen → Seen
-level_gone c one = record one {
-  process = settled (kind_of c) (record one.process.state { touched = accepted one.process.state.touched }) (without_last one.process.levels);
-}
-
--- the process at the test line of its innermost level
-abbrev pub stood : Seen → Seen
-stood one = record one { process = stands_now one.process.state one.process.levels }
-
--- a process that leaves the test line of a conversation, if it stands there
-abbrev pub line_left : Code → ℕ → Seen → Seen
-line_left c d one = record one { process = leaves (kind_of c) d one.process }
-
--- The parts have come to the world of a turn that was taken, with its pass.
-pub record HasTaken (memory : Common) (procs : List Seen) (table : List Conversation) (pass : Option Event)
-    (moved : Moved Standing Copy Common) : Type 0 where
-  pub world : world_of procs table memory ≡ moved.world
-  pub kind : moved.kind ≡ Took
-  pub rejections : moved.rejections ≡ []
-  pub passes : passes_of pass ≡ moved.passes

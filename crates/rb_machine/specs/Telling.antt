@@ -10,7 +10,7 @@ use Rattle.rb_code.specs.Instructions.Plain.{Code}
 use Rattle.rb_code.specs.WordMachine.Turn.{Copy, Standing}
 use Rattle.rb_code.specs.WordMachine.WordKind.{released}
 use Rattle.rb_proc.specs.Process.{Seen, kind_of}
-use Rattle.rb_machine.specs.Moves.{passes_of}
+use Rattle.rb_recovery.specs.TestLines.{passes_of}
 use Rattle.rb_machine.specs.declared.came.Came.{Came}
 use Rattle.rb_machine.specs.declared.telling.Ending.{Ending}
 use Rattle.rb_machine.specs.declared.telling.Ending.TheVariants as ending

@@ -1,7 +1,7 @@
 //! What a turn came to before lines are released.
 
 ghost use Rattle.std.specs.Prelude.{◌≡◌, true, false, None};
-ghost use Rattle.rb_machine.specs.Moves.{passes_of};
+ghost use Rattle.rb_recovery.specs.TestLines.{passes_of};
 ghost use Rattle.rb_machine.specs.Telling.{is_alone};
 
 use rb_base::{Event, TurnKind};

@@ -6,19 +6,19 @@ ghost use Rattle.rb_code.specs.Instructions.Plain.{Code as Plain, code as plain}
 ghost use Rattle.rb_trace.specs.Report.{told_of};
 ghost use Rattle.rb_machine.specs.Ends.{Ends, Finishes, SomeTurnCame, SomeTurnIsUnderWay, links_yet};
 ghost use Rattle.rb_machine.specs.Telling.{IsQuiet};
-ghost use Rattle.rb_machine.specs.Work.{releasing};
-ghost use Rattle.rb_machine.specs.Worlds.{lines_of};
+ghost use Rattle.rb_recovery.specs.Work.{releasing};
+ghost use Rattle.rb_recovery.specs.Worlds.{lines_of};
 
 use crate::came::Came;
 use crate::entry::enter;
 use crate::moves::Move;
-use crate::parts::Parts;
 use crate::telling::finish;
-use crate::test_line::accept;
 use crate::undone::undo;
 use rb_base::{Cause, Event, Report, Steps, TurnKind};
 use rb_code::Code;
 use rb_proc::Proc;
+use rb_recovery::parts::Parts;
+use rb_recovery::test_line::accept;
 use std::sync::ledger::Ledger;
 
 /// Ends turn number `turn` of process p, by what the process did in it. False where no released line waits.

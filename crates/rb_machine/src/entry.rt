@@ -16,24 +16,24 @@ ghost use Rattle.rb_proc.specs.Entries.{WantsBlock, entered_process};
 ghost use Rattle.rb_proc.specs.Executable.{IsExecutable, RestartsAt};
 ghost use Rattle.rb_proc.specs.Process.{Seen, kind_of};
 ghost use Rattle.rb_machine.specs.AtWork.{MayAct};
-ghost use Rattle.rb_machine.specs.Cascade.{SameGroups};
+ghost use Rattle.rb_recovery.specs.Cascade.{SameGroups};
 ghost use Rattle.rb_machine.specs.Entries.{IsListedBlock, entry_at, joined_at};
-ghost use Rattle.rb_machine.specs.Links.{HasRoom};
+ghost use Rattle.rb_recovery.specs.Links.{HasRoom};
 ghost use Rattle.rb_machine.specs.Moves.{AreAtWork, HasMoved, IsLeft, MovesAt};
-ghost use Rattle.rb_machine.specs.Rejections.{changed};
+ghost use Rattle.rb_recovery.specs.Rejections.{changed};
 ghost use Rattle.rb_machine.specs.Telling.{IsQuiet};
-ghost use Rattle.rb_machine.specs.Work.{undoing};
-ghost use Rattle.rb_machine.specs.Worlds.{kind_with, processes_of};
+ghost use Rattle.rb_recovery.specs.Work.{undoing};
+ghost use Rattle.rb_recovery.specs.Worlds.{kind_with, processes_of};
 
 use crate::came::Came;
-use crate::links::Links;
-use crate::parts::Parts;
 use crate::undone::undo;
 use arrayvec::ArrayVec;
 use rb_base::{Cause, Event, MOST_EVENTS, MOST_OPEN_LEVELS, Steps, TurnKind};
 use rb_code::Code;
 use rb_conv::Table;
 use rb_proc::{Proc, Wanted};
+use rb_recovery::links::Links;
+use rb_recovery::parts::Parts;
 use std::sync::ledger::Ledger;
 
 /// Process p enters a recovery block, at its first alternate, or at the present one of its conversation. It fails where that is broken

@@ -1,7 +1,7 @@
 //! The laws of the machine.
 
 ghost use Rattle.rb_machine.specs.Machine.{MachineIsWordMachine};
-ghost use Rattle.rb_machine.specs.Rising.{SoundSettlingKeeps, SoundStepsRaise};
+ghost use Rattle.rb_recovery.specs.Rising.{SoundSettlingKeeps, SoundStepsRaise};
 
 /// A step of a process that stands in the table of sound code raises the cursor of each of its channels by at most one, and lowers none;
 /// where its acceptance test held it leaves all words as they are. Settling leaves all cursors as they are.

@@ -13,10 +13,8 @@ ghost use Rattle.rb_machine.specs.AtWork.{HasFewAlternates};
 ghost use Rattle.rb_machine.specs.Loading.{AllSettle, first_seen};
 ghost use Rattle.rb_machine.specs.Machine.{IsTied, opening_seen, seen};
 ghost use Rattle.rb_machine.specs.Telling.{running_of};
-ghost use Rattle.rb_machine.specs.Worlds.{counts_of, processes_of};
+ghost use Rattle.rb_recovery.specs.Worlds.{counts_of, processes_of};
 
-use crate::links::Links;
-use crate::parts::Parts;
 use crate::rests::Resting;
 use crate::telling::note_running;
 use rb_base::{Memory, Nested, Steps};
@@ -24,6 +22,8 @@ use rb_code::{BlockCode, ChannelCode, Code};
 use rb_conv::Table;
 use rb_mail::Mails;
 use rb_proc::Proc;
+use rb_recovery::links::Links;
+use rb_recovery::parts::Parts;
 use std::alloc::Global;
 use std::sync::ledger::Ledger;
 

@@ -10,7 +10,7 @@ ghost use Rattle.rb_conv.specs.Conversations.{talks};
 ghost use Rattle.rb_proc.specs.Sees.{AreSized};
 ghost use Rattle.rb_proc.specs.Statuses.{status_of};
 ghost use Rattle.rb_proc.specs.Views.{IsEntryOf, IsViewOf};
-ghost use Rattle.rb_machine.specs.Worlds.{processes_of};
+ghost use Rattle.rb_recovery.specs.Worlds.{processes_of};
 
 use rb_conv::Table;
 use rb_mail::Mails;

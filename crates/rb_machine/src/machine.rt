@@ -11,33 +11,34 @@ ghost use Rattle.rb_trace.specs.Report.{told_of};
 ghost use Rattle.rb_world.specs.Turn.{told_at_opening, turn};
 ghost use Rattle.rb_world.specs.World.{Process};
 ghost use Rattle.rb_machine.specs.AtWork.{IsAtWork};
-ghost use Rattle.rb_machine.specs.Cascade.{SameGroups};
-ghost use Rattle.rb_machine.specs.Known.{IsSoundFor};
-ghost use Rattle.rb_machine.specs.Links.{HasRoom};
+ghost use Rattle.rb_recovery.specs.Cascade.{SameGroups};
+ghost use Rattle.rb_recovery.specs.Known.{IsSoundFor};
+ghost use Rattle.rb_recovery.specs.Links.{HasRoom};
 ghost use Rattle.rb_machine.specs.Machine.{HasTurned, IsKeptEntry, IsOver, opening_seen};
-ghost use Rattle.rb_machine.specs.Moves.{AreAtWork, world};
-ghost use Rattle.rb_machine.specs.Reading.{line_stood_at};
+ghost use Rattle.rb_machine.specs.Moves.{AreAtWork};
+ghost use Rattle.rb_recovery.specs.Parts.{world};
+ghost use Rattle.rb_recovery.specs.Reading.{line_stood_at};
 ghost use Rattle.rb_machine.specs.Resting.{is_still, waits_or_rests};
-ghost use Rattle.rb_machine.specs.Survivors.{word_survivors};
+ghost use Rattle.rb_recovery.specs.Survivors.{word_survivors};
 ghost use Rattle.rb_machine.specs.Telling.{AreFreed, running_of};
-ghost use Rattle.rb_machine.specs.Work.{enters_there, turn_work};
-ghost use Rattle.rb_machine.specs.Worlds.{NoneWaits, counts_of, kind_with, lines_of, processes_of};
+ghost use Rattle.rb_recovery.specs.Work.{enters_there, turn_work};
+ghost use Rattle.rb_recovery.specs.Worlds.{NoneWaits, counts_of, kind_with, lines_of, processes_of};
 
 mod looking;
 
 use crate::ends::end_turn;
-use crate::links::Links;
 use crate::loading::load_parts;
 use crate::moves::{Move, take_turn};
-use crate::parts::Parts;
 use crate::reading::{line_at, place_at, sent_on, state_at, taken_on, want_at, word_at};
 use crate::rests::{Resting, is_bare, is_still};
-use crate::survivors::survivors;
 use crate::telling::{drop_all_released, tell_opening};
 use arrayvec::ArrayVec;
 use rb_base::{Final, Kept, Lines, Memory, Nested, Report, State, Steps, TurnKind};
 use rb_code::Code;
 use rb_proc::Wanted;
+use rb_recovery::links::Links;
+use rb_recovery::parts::Parts;
+use rb_recovery::survivors::survivors;
 use std::alloc::Global;
 use std::marker::Model;
 use std::sync::ledger::Ledger;
@@ -306,7 +307,7 @@ impl<'a, L: Ledger> Lines for Machine<'a, L> {
 
 // How the processes and the channels stand, for the ending of a run.
 impl<'a, L: Ledger> Final for Machine<'a, L> {
-    ghost use Rattle.rb_machine.specs.Reading.{sent_of, states_of, taken_of, variables_of};
+    ghost use Rattle.rb_recovery.specs.Reading.{sent_of, states_of, taken_of, variables_of};
 
     type Ledger = L;
 

@@ -13,24 +13,26 @@ ghost use Rattle.rb_conv.specs.Conversations.{memberships};
 ghost use Rattle.rb_proc.specs.Process.{Seen};
 ghost use Rattle.rb_proc.specs.Sees.{AreSized};
 ghost use Rattle.rb_machine.specs.AtWork.{MayAct};
-ghost use Rattle.rb_machine.specs.Channels.{AreNumbered, NoneFell};
+ghost use Rattle.rb_recovery.specs.Channels.{AreNumbered, NoneFell};
 ghost use Rattle.rb_machine.specs.Ends.{LeadsTo, StaysOpen, links_yet, named_yet};
-ghost use Rattle.rb_machine.specs.Links.{HasRoom};
-ghost use Rattle.rb_machine.specs.Moves.{AreAtWork, IsEntryReady, IsReadyAt, MovesAt, ReceivesThere, WantsThere, world};
+ghost use Rattle.rb_recovery.specs.Links.{HasRoom};
+ghost use Rattle.rb_recovery.specs.Innermost.{WantsThere};
+ghost use Rattle.rb_machine.specs.Moves.{AreAtWork, IsEntryReady, IsReadyAt, MovesAt, ReceivesThere};
+ghost use Rattle.rb_recovery.specs.Parts.{world};
 ghost use Rattle.rb_machine.specs.Receipts.{is_receipt_that_waits, receipt};
-ghost use Rattle.rb_machine.specs.Rejections.{changed};
+ghost use Rattle.rb_recovery.specs.Rejections.{changed};
 ghost use Rattle.rb_machine.specs.Turns.{runs_there};
-ghost use Rattle.rb_machine.specs.Work.{enters_there, looking, named_by_acts, named_in_turn, named_running, named_within};
-ghost use Rattle.rb_machine.specs.Worlds.{kind_with, processes_of};
+ghost use Rattle.rb_recovery.specs.Work.{enters_there, looking, named_by_acts, named_in_turn, named_running, named_within};
+ghost use Rattle.rb_recovery.specs.Worlds.{kind_with, processes_of};
 
-use crate::channels::{has_room, message_there};
 use crate::looking::message_at;
-use crate::parts::Parts;
 use crate::step::take_step;
 use rb_base::{Cause, Steps};
 use rb_code::Code;
 use rb_mail::Mails;
 use rb_proc::{Proc, ProcessStatus, Wanted};
+use rb_recovery::channels::{has_room, message_there};
+use rb_recovery::parts::Parts;
 use std::sync::ledger::Ledger;
 
 /// What a process does in its turn: its step, if it takes one, is taken.

@@ -1,26 +1,23 @@
 //! What a machine is read by: how its processes stand, their variables, how many values were sent and taken on each channel, and the released
 //! lines that wait.
 
-ghost use Rattle.std.specs.Prelude.{◌≡◌, ℕ, ◌<◌, pos, length, slice_get, option_copied, option_map, Option, Some};
-ghost use Rattle.std.specs.Borrow.{sem};
-ghost use Rattle.std.specs.Io.BufRead.{Rests};
-ghost use Rattle.rb_base.specs.Lines.{AtMostOneTick, belonging, next_line};
+ghost use Rattle.std.specs.Prelude.{◌≡◌, ◌<◌, pos, length, slice_get, option_map, Option, Some};
+ghost use Rattle.rb_base.specs.Lines.{AtMostOneTick, belonging};
 ghost use Rattle.rb_code.specs.Instructions.Plain.{code as plain};
 ghost use Rattle.rb_code.specs.WordMachine.WordKind.{cursor_in};
 ghost use Rattle.rb_code.specs.WordMachine.Turn.{Copy, Standing};
 ghost use Rattle.rb_proc.specs.Executable.{IsExecutable};
 ghost use Rattle.rb_proc.specs.Process.{Seen, wanted_of};
 ghost use Rattle.rb_world.specs.World.{Level, Process};
-ghost use Rattle.rb_machine.specs.Channels.{AreNumbered, conversation_in};
-ghost use Rattle.rb_machine.specs.Reading.{AreCounted, HasEnd, HasLent, line_stood_at, sent_of, states_of, taken_of, variables_of};
-ghost use Rattle.rb_machine.specs.Stepping.{IsInnermost};
-ghost use Rattle.rb_machine.specs.Worlds.{lines_of, processes_of};
+ghost use Rattle.rb_recovery.specs.Channels.{AreNumbered, conversation_in};
+ghost use Rattle.rb_recovery.specs.Reading.{AreCounted, HasEnd, line_stood_at, sent_of, states_of, taken_of, variables_of};
+ghost use Rattle.rb_recovery.specs.Innermost.{IsInnermost};
+ghost use Rattle.rb_recovery.specs.Worlds.{processes_of};
 
-use crate::innermost::innermost;
-use crate::parts::Parts;
 use rb_base::{State, Steps};
 use rb_code::Code;
 use rb_proc::{LevelView, Proc, Wanted};
+use rb_recovery::innermost::innermost;
 use std::sync::ledger::Ledger;
 
 /// How process p stands; a running one with its number of open levels.
@@ -133,18 +130,5 @@ fn conversation_of(level: Option<LevelView>) -> Option<u32>
     match level {
         None => None,
         Some(view) => view.conversation,
-    }
-}
-
-impl<L: Ledger> Parts<L> {
-    ghost use Rattle.rb_machine.specs.contracts.parts.Parts.{the_row};
-
-    /// Lends the next released line of process p, which no longer waits then; `None` exactly where none of its lines waits.
-    pub fn released(&mut self, p: u32) -> Option<&[u8]>
-        requires { p < length self.old.procs.items }
-        ensures lent { option_copied result ≡ next_line (lines_of self.old.procs.items) p }
-        ensures* after { sem 𝓛 (Rests (the_row L.row L.Ledger) self.entry (λ new. HasLent p self.old new)) }
-    {
-        self.procs[p as usize].released()
     }
 }

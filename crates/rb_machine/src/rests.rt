@@ -3,7 +3,7 @@
 ghost use Rattle.std.specs.Prelude.{◌≡◌, ◌+◌, ◌<◌, ◌-◌, ◌^◌, nat_eq, true, length, replicate, set, slice_get, IfOk};
 ghost use Rattle.rb_base.specs.declared.event.TurnKind.TheVariants.{Idle};
 ghost use Rattle.rb_machine.specs.Resting.{IsBare, changed_after, is_still, kind_of, one_more};
-ghost use Rattle.rb_machine.specs.Worlds.{processes_of};
+ghost use Rattle.rb_recovery.specs.Worlds.{processes_of};
 
 use rb_base::{Memory, TurnKind};
 use rb_proc::Proc;

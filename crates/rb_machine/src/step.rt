@@ -12,19 +12,21 @@ ghost use Rattle.rb_proc.specs.Work.{named_in_step};
 ghost use Rattle.rb_machine.specs.AtWork.{IsStep, MayAct};
 ghost use Rattle.rb_conv.specs.Conversations.{memberships};
 ghost use Rattle.rb_machine.specs.Ends.{LeadsTo, StaysOpen, links_yet, named_yet};
-ghost use Rattle.rb_machine.specs.Links.{HasRoom};
-ghost use Rattle.rb_machine.specs.Moves.{AreAtWork, MovesAt, WantsThere, world};
+ghost use Rattle.rb_recovery.specs.Links.{HasRoom};
+ghost use Rattle.rb_recovery.specs.Innermost.{WantsThere};
+ghost use Rattle.rb_machine.specs.Moves.{AreAtWork, MovesAt};
+ghost use Rattle.rb_recovery.specs.Parts.{world};
 ghost use Rattle.rb_machine.specs.Stepping.{AddsLink, HasDone, HasDoneAt, MayStep};
-ghost use Rattle.rb_machine.specs.Work.{named_by_steps};
-ghost use Rattle.rb_machine.specs.Worlds.{kind_with, processes_of};
+ghost use Rattle.rb_recovery.specs.Work.{named_by_steps};
+ghost use Rattle.rb_recovery.specs.Worlds.{kind_with, processes_of};
 
-use crate::links::Links;
 use crate::moves::Move;
-use crate::parts::Parts;
 use rb_base::Steps;
 use rb_code::Code;
 use rb_mail::Mails;
 use rb_proc::{Outcome, Proc, Wanted};
+use rb_recovery::links::Links;
+use rb_recovery::parts::Parts;
 use std::sync::ledger::Ledger;
 
 // A process takes a step. A turn that goes on or whose test held is kept, and the link of it, to the last kept turn before, is added; a

@@ -11,10 +11,10 @@ ghost use Rattle.rb_code.specs.WordMachine.Turn.{Copy, Standing};
 ghost use Rattle.rb_code.specs.WordMachine.WordKind.{word_kind};
 ghost use Rattle.rb_proc.specs.Process.{Seen};
 ghost use Rattle.rb_proc.specs.Statuses.{status_of};
-ghost use Rattle.rb_machine.specs.Moves.{passes_of};
+ghost use Rattle.rb_recovery.specs.TestLines.{passes_of};
 ghost use Rattle.rb_machine.specs.Telling.{GoesOnThere, WasAlone, ended_by, ended_if, ends_told, freed_one, is_running, running_of};
-ghost use Rattle.rb_machine.specs.Work.{releases_some, releasing};
-ghost use Rattle.rb_machine.specs.Worlds.{NoneWaits, lines_of, processes_of};
+ghost use Rattle.rb_recovery.specs.Work.{releases_some, releasing};
+ghost use Rattle.rb_recovery.specs.Worlds.{NoneWaits, lines_of, processes_of};
 
 use crate::came::Came;
 use arrayvec::ArrayVec;

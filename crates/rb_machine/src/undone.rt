@@ -6,16 +6,17 @@ ghost use Rattle.rb_world.specs.Reject.{reject};
 ghost use Rattle.rb_world.specs.Turn.{undone};
 ghost use Rattle.rb_code.specs.Instructions.Plain.{Code as Plain};
 ghost use Rattle.rb_proc.specs.Sees.{AreSized};
-ghost use Rattle.rb_machine.specs.Cascade.{AreQuiet, MayRejectAt};
-ghost use Rattle.rb_machine.specs.Moves.{HasMoved, IsLeft, world};
-ghost use Rattle.rb_machine.specs.Work.{undoing};
-ghost use Rattle.rb_machine.specs.Worlds.{kind_with, processes_of};
+ghost use Rattle.rb_recovery.specs.Cascade.{AreQuiet, MayRejectAt};
+ghost use Rattle.rb_machine.specs.Moves.{HasMoved, IsLeft};
+ghost use Rattle.rb_recovery.specs.Parts.{world};
+ghost use Rattle.rb_recovery.specs.Work.{undoing};
+ghost use Rattle.rb_recovery.specs.Worlds.{kind_with, processes_of};
 
 use crate::came::Came;
-use crate::cascade::reject;
-use crate::parts::Parts;
 use arrayvec::ArrayVec;
 use rb_base::{Cause, Event, MOST_EVENTS, Steps, TurnKind};
+use rb_recovery::cascade::reject;
+use rb_recovery::parts::Parts;
 use std::sync::ledger::Ledger;
 
 /// Ends a turn by rejecting process p from the innermost of its first `left` levels on.

@@ -22,7 +22,7 @@ use Rattle.rb_world.proofs.Keeping.StandingFacts.{run-size}
 use Rattle.rb_code.specs.WordMachine.Turn.{Copy, Standing}
 use Rattle.rb_code.specs.WordMachine.WordKind.{word_kind}
 use Rattle.rb_code.specs.WordMachine.WordRun.{WordWorld, counts_sent, counts_taken, opening_of, opening_standings, variable_words, word_final, word_run, word_text}
-use Rattle.rb_machine.specs.Known.{IsSoundFor}
+use Rattle.rb_recovery.specs.Known.{IsSoundFor}
 use Rattle.rb_machine.specs.Machine.{Seen, opening_seen}
 use Rattle.rb_machine.proofs.Knowing.Sizes.{length-opening}
 use Rattle.rb_code.specs.Instructions.Variables.{VariablesLie}

@@ -19,7 +19,7 @@ use Rattle.rb_code.specs.Instructions.Plain.{Code}
 use Rattle.rb_code.specs.WordMachine.Turn.{Copy, Standing, kept_from}
 use Rattle.rb_code.specs.WordMachine.WordRun.{word_run}
 use Rattle.rb_prepare.proofs.AcceptedSources.{accepted_code_agrees}
-use Rattle.rb_machine.specs.Survivors.{word_survivors}
+use Rattle.rb_recovery.specs.Survivors.{word_survivors}
 use Rattle.rb_run.specs.Surviving.{IsErasedOver, Survives}
 use Rattle.rb_run.specs.declared.surviving.Ended.TheVariants.{WriteFault}
 

@@ -2,7 +2,7 @@
 use Rattle.std.proofs.Common.{◌≡◌, ℕ, ◌+◌, ◌≤◌, List, [], ◌∷◌, length, replicate, ap, ◌∙◌, arith}
 use Rattle.rb_world.specs.Turn.{Told}
 use Rattle.rb_machine.specs.Machine.{HasTurned, Seen, opening_seen}
-use Rattle.rb_machine.specs.Work.{turn_work, turns_work}
+use Rattle.rb_recovery.specs.Work.{turn_work, turns_work}
 use Rattle.rb_run.specs.Running.{NoneWaits}
 use Rattle.rb_run.proofs.TurnsTaken.{is_after}
 

@@ -7,7 +7,7 @@ use Rattle.rb_meaning.specs.Laws.{IsErased}
 use Rattle.rb_meaning.specs.Meaning.{run_of, survivors}
 use Rattle.rb_code.specs.Instructions.Plain.{Code}
 use Rattle.rb_code.specs.WordMachine.WordRun.{word_run}
-use Rattle.rb_machine.specs.Survivors.{word_survivors}
+use Rattle.rb_recovery.specs.Survivors.{word_survivors}
 use Rattle.rb_run.specs.Sources.{OfItsSource}
 use Rattle.rb_run.specs.declared.surviving.Ended.{Ended}
 use Rattle.rb_run.specs.declared.surviving.Ended.TheVariants.{WriteFault, Memory}

@@ -7,7 +7,7 @@ ghost use Rattle.rb_code.specs.WordMachine.WordKind.{word_kind};
 ghost use Rattle.rb_code.specs.WordMachine.WordRun.{opening_of, word_run};
 ghost use Rattle.rb_world.specs.Turn.{run as run_from, told_at_opening};
 ghost use Rattle.rb_machine.specs.Machine.{IsOver, opening_seen};
-ghost use Rattle.rb_machine.specs.Work.{turns_work};
+ghost use Rattle.rb_recovery.specs.Work.{turns_work};
 ghost use Rattle.rb_run.specs.Counting.{AreBelow, IsMore, both_counted, counts, nothing_counted, told_counts};
 ghost use Rattle.rb_run.specs.Running.{NoneWaits, ran};
 

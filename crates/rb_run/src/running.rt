@@ -11,7 +11,7 @@ ghost use Rattle.rb_trace.specs.Report.{told_of};
 ghost use Rattle.rb_world.specs.Text.{all_told, told_text};
 ghost use Rattle.rb_world.specs.Turn.{run as run_from};
 ghost use Rattle.rb_machine.specs.Machine.{IsOver, opening_seen};
-ghost use Rattle.rb_machine.specs.Work.{turns_work};
+ghost use Rattle.rb_recovery.specs.Work.{turns_work};
 ghost use Rattle.rb_run.specs.Running.{HasNoLines, NoneWaits, NamesFit, ran};
 ghost use Rattle.rb_run.specs.Sources.{OfItsSource};
 

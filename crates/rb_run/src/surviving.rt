@@ -5,8 +5,8 @@ ghost use Rattle.rb_code.specs.WordMachine.WordRun.{word_run};
 ghost use Rattle.rb_trace.specs.Naming.{naming};
 ghost use Rattle.rb_world.specs.Text.{record_text};
 ghost use Rattle.rb_machine.specs.Machine.{IsOver, opening_seen};
-ghost use Rattle.rb_machine.specs.Work.{turns_work};
-ghost use Rattle.rb_machine.specs.Survivors.{word_survivors};
+ghost use Rattle.rb_recovery.specs.Work.{turns_work};
+ghost use Rattle.rb_recovery.specs.Survivors.{word_survivors};
 ghost use Rattle.rb_run.specs.Running.{NoneWaits, ran};
 ghost use Rattle.rb_run.specs.Surviving.{IsErasedOver, Survives};
 

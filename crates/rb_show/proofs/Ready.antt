@@ -8,7 +8,7 @@ use Rattle.rb_world.specs.Kind.{Membership}
 use Rattle.rb_meaning.specs.Groups.{groups_of}
 use Rattle.rb_code.specs.Instructions.Plain.{code}
 use Rattle.rb_conv.specs.Conversations.{memberships, opening}
-use Rattle.rb_machine.specs.Worlds.{counts_of}
+use Rattle.rb_recovery.specs.Worlds.{counts_of}
 use Rattle.rb_nest.specs.Groups.{alternates}
 use Rattle.rb_picture.specs.Meant.{tree_trace_text}
 use Rattle.rb_picture.specs.Trace.{trace_text}

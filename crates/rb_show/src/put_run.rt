@@ -6,7 +6,7 @@ ghost use Rattle.rb_code.specs.Instructions.Plain.{code as plain};
 ghost use Rattle.rb_code.specs.SoundCode.WellFormed.{IsSound};
 ghost use Rattle.rb_conv.specs.Conversations.{memberships, opening};
 ghost use Rattle.rb_machine.specs.Machine.{opening_seen};
-ghost use Rattle.rb_machine.specs.Worlds.{counts_of};
+ghost use Rattle.rb_recovery.specs.Worlds.{counts_of};
 ghost use Rattle.rb_outside.specs.Puts.{Puts};
 ghost use Rattle.rb_page.specs.Escape.{escaped};
 ghost use Rattle.rb_page.specs.Page.{page_text};

@@ -22,7 +22,7 @@ use Rattle.rb_code.specs.Instructions.Plain.{Part, code}
 use Rattle.rb_code.specs.SoundCode.WellFormed.{IsSound, IsWellFormed}
 use Rattle.rb_code.specs.WordMachine.WordRun.{word_text}
 use Rattle.rb_conv.specs.Conversations.{memberships, opening}
-use Rattle.rb_machine.specs.Worlds.{counts_of}
+use Rattle.rb_recovery.specs.Worlds.{counts_of}
 use Rattle.rb_lists.specs.Lists.{HasLists}
 use Rattle.rb_lists.specs.Variables.{LieInParts}
 use Rattle.rb_run.specs.Running.{NamesFit}

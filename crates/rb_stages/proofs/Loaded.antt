@@ -27,8 +27,8 @@ use Rattle.rb_prepare.specs.declared.preparing.Prepared.{Prepared}
 use Rattle.rb_prepare.proofs.AcceptedSources.{accepted_code_agrees}
 use Rattle.rb_run.specs.Running.{NamesFit}
 use Rattle.rb_run.proofs.NamesFit.{names_fit}
-use Rattle.rb_machine.specs.Survivors.{word_survivors}
-use Rattle.rb_machine.specs.Worlds.{counts_of}
+use Rattle.rb_recovery.specs.Survivors.{word_survivors}
+use Rattle.rb_recovery.specs.Worlds.{counts_of}
 use Rattle.rb_run.specs.Counting.{told_counts}
 use Rattle.rb_run.proofs.AsMeant.{text_as_meant}
 use Rattle.rb_run.proofs.Survived.{erased_over}

@@ -7,7 +7,7 @@ use Rattle.rb_world.specs.Turn.{told_at_opening}
 use Rattle.rb_meaning.specs.Meaning.{run_text}
 use Rattle.rb_code.specs.Instructions.Plain.{Code}
 use Rattle.rb_code.specs.WordMachine.WordRun.{opening_of, word_run, word_text}
-use Rattle.rb_machine.specs.Survivors.{word_survivors}
+use Rattle.rb_recovery.specs.Survivors.{word_survivors}
 use Rattle.rb_stuck.specs.Programs.{tree_standing_text, word_standing_text}
 use Rattle.rb_run.specs.Counting.{Counted, told_counts}
 use Rattle.rb_stages.specs.Words.{Command, Run, Survive, Survey, Request, text_named}

@@ -5,7 +5,7 @@ ghost use Rattle.rb_code.specs.Instructions.Plain.{code as plain};
 ghost use Rattle.rb_code.specs.WordMachine.WordRun.{word_text};
 ghost use Rattle.rb_conv.specs.Conversations.{memberships, opening};
 ghost use Rattle.rb_code.specs.SoundCode.WellFormed.{IsSound};
-ghost use Rattle.rb_machine.specs.Worlds.{counts_of};
+ghost use Rattle.rb_recovery.specs.Worlds.{counts_of};
 ghost use Rattle.rb_run.specs.Running.{NamesFit};
 ghost use Rattle.rb_stages.specs.Judgement.{Writes};
 ghost use Rattle.rb_stages.specs.Stages.{StageEnds};

@@ -15,7 +15,7 @@ use Rattle.rb_code.specs.WordMachine.Turn.{Common, Copy, Standing}
 use Rattle.rb_code.specs.WordMachine.WordKind.{word_kind}
 use Rattle.rb_code.specs.WordMachine.WordRun.{WordWorld}
 use Rattle.rb_machine.specs.Machine.{HasTurned, Seen, turned}
-use Rattle.rb_machine.specs.Reading.{states_of}
+use Rattle.rb_recovery.specs.Reading.{states_of}
 use Rattle.rb_machine.specs.Telling.{AreFreed}
 use Rattle.rb_stuck.specs.Alike.{IsAlike}
 use Rattle.rb_stuck.specs.Stuck.{all_still, has_ended, is_final, is_still, is_stuck, stands_still}

@@ -18,8 +18,8 @@ use Rattle.rb_world.specs.Kind.{Membership}
 use Rattle.rb_proc.specs.Process.{wanted_by, wanted_now, wanted_of}
 use Rattle.rb_proc.specs.declared.answers.Wanted.{Wanted}
 use Rattle.rb_proc.specs.declared.answers.Wanted.TheVariants.{Line}
-use Rattle.rb_machine.specs.Channels.{conversation_in}
-use Rattle.rb_machine.specs.Reading.{line_stood_at, states_of}
+use Rattle.rb_recovery.specs.Channels.{conversation_in}
+use Rattle.rb_recovery.specs.Reading.{line_stood_at, states_of}
 use Rattle.rb_stuck.specs.Stuck.{conversation_words, has_ended, is_final, line_words, waiting_line, waiting_text, waiting_words, want_words}
 use Rattle.rb_stuck.specs.Wanted.{wanted_words}
 use Rattle.rb_stuck.proofs.Surveyed.{ended_state, is_ended, left_from, process_seen}

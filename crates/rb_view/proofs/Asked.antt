@@ -9,9 +9,9 @@ use Rattle.rb_proc.specs.Process.{wanted_by, wanted_now, wanted_of}
 use Rattle.rb_proc.specs.declared.answers.LevelView.{LevelView}
 use Rattle.rb_proc.specs.declared.answers.Wanted.{Wanted}
 use Rattle.rb_proc.specs.declared.answers.Wanted.TheVariants as wanted
-use Rattle.rb_machine.specs.Channels.{conversation_in}
-use Rattle.rb_machine.specs.Reading.{line_stood_at}
-use Rattle.rb_machine.specs.Stepping.{IsInnermost}
+use Rattle.rb_recovery.specs.Channels.{conversation_in}
+use Rattle.rb_recovery.specs.Reading.{line_stood_at}
+use Rattle.rb_recovery.specs.Innermost.{IsInnermost}
 use Rattle.rb_picture.specs.Trace.{test_of}
 use Rattle.rb_picture.specs.Turns.{asked_first, asked_now, asked_of, line_asked, start_asked}
 use Rattle.rb_picture.specs.declared.asked.Asked.{Asked}

@@ -16,7 +16,7 @@ use Rattle.rb_code.specs.WordMachine.WordKind.{word_kind}
 use Rattle.rb_code.specs.WordMachine.WordRun.{WordWorld, opening_of, opening_standings, variable_words, word_run}
 use Rattle.rb_code.specs.WordMachine.Workspace.{part_of}
 use Rattle.rb_code.proofs.WholeRuns.ProcessesBegin.{all_there}
-use Rattle.rb_machine.specs.Known.{IsSoundFor}
+use Rattle.rb_recovery.specs.Known.{IsSoundFor}
 use Rattle.rb_machine.specs.Machine.{Seen, opening_seen, turned}
 use Rattle.rb_machine.proofs.Knowing.Sizes.{length-opening}
 use Rattle.rb_run.proofs.OwnWords.{runs_own, variables_long}

@@ -14,9 +14,9 @@ use Rattle.rb_code.specs.WordMachine.Workspace.{part_of}
 use Rattle.rb_proc.specs.Views.{IsEntryOf, IsViewOf}
 use Rattle.rb_proc.specs.declared.answers.LevelView.{LevelView}
 use Rattle.rb_machine.specs.Looking.{IsViewOn}
-use Rattle.rb_machine.specs.Reading.{variables_of}
+use Rattle.rb_recovery.specs.Reading.{variables_of}
 use Rattle.rb_machine.specs.Machine.{Seen}
-use Rattle.rb_machine.specs.declared.channels.looking.ChannelView.{ChannelView}
+use Rattle.rb_machine.specs.declared.channel_view.ChannelView.{ChannelView}
 use Rattle.rb_changes.specs.Noted.{ProcessNoted, noted_of, process_noted}
 use Rattle.rb_changes.specs.Shown.{ChannelShown, ProcessShown, channel_of, channels_shown, last_value, level_shown, process_shown}
 use Rattle.rb_picture.specs.Trace.{word_reading}

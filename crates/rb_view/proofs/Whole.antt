@@ -14,7 +14,7 @@ use Rattle.rb_code.specs.Instructions.Plain.{Code, code as plain}
 use Rattle.rb_code.specs.WordMachine.WordRun.{opening_of, word_final, word_run}
 use Rattle.rb_code.specs.declared.code.Code.{Code as Held}
 use Rattle.rb_machine.specs.Machine.{Seen, opening_seen}
-use Rattle.rb_machine.specs.Worlds.{counts_of}
+use Rattle.rb_recovery.specs.Worlds.{counts_of}
 use Rattle.rb_changes.specs.Changes.{changes}
 use Rattle.rb_picture.specs.Head.{head_of, head_text, meetings}
 use Rattle.rb_picture.specs.Heads.{meeting}

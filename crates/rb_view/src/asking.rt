@@ -4,7 +4,7 @@ ghost use Rattle.std.specs.Prelude.{◌≡◌, ◌<◌, cond, length, option_map
 ghost use Rattle.rb_code.specs.Instructions.Plain.{Block, code as plain};
 ghost use Rattle.rb_code.specs.WordMachine.Turn.{Copy, Standing};
 ghost use Rattle.rb_code.specs.WordMachine.WordKind.{word_kind};
-ghost use Rattle.rb_machine.specs.Stepping.{IsInnermost};
+ghost use Rattle.rb_recovery.specs.Innermost.{IsInnermost};
 ghost use Rattle.rb_picture.specs.Trace.{address_told, place_at, test_of};
 ghost use Rattle.rb_picture.specs.Turns.{asked_of};
 ghost use Rattle.rb_world.specs.World.{Level, Process, Running, last_of};

@@ -5,7 +5,7 @@ ghost use Rattle.rb_base.specs.declared.limits.TheConstants.{MOST_OPEN_LEVELS};
 ghost use Rattle.rb_base.specs.Lines.{belonging};
 ghost use Rattle.rb_code.specs.WordMachine.Turn.{Copy, Standing};
 ghost use Rattle.rb_code.specs.WordMachine.Workspace.{part_of};
-ghost use Rattle.rb_machine.specs.Reading.{variables_of};
+ghost use Rattle.rb_recovery.specs.Reading.{variables_of};
 ghost use Rattle.rb_changes.specs.Noted.{noted_of, process_noted, talk_of};
 ghost use Rattle.rb_changes.specs.Shown.{channel_of, level_shown, process_shown, stand_of};
 ghost use Rattle.rb_picture.specs.Trace.{word_reading};

@@ -9,9 +9,9 @@ ghost use Rattle.rb_picture.specs.Trace.{back_text, before_opening, trace_text, 
 ghost use Rattle.rb_trace.specs.Naming.{naming};
 ghost use Rattle.rb_trace.specs.Report.{told_of};
 ghost use Rattle.rb_world.specs.Text.{told_text};
-ghost use Rattle.rb_machine.specs.Known.{IsSoundFor};
+ghost use Rattle.rb_recovery.specs.Known.{IsSoundFor};
 ghost use Rattle.rb_machine.specs.Machine.{opening_seen, turned};
-ghost use Rattle.rb_machine.specs.Worlds.{counts_of};
+ghost use Rattle.rb_recovery.specs.Worlds.{counts_of};
 ghost use Rattle.rb_run.specs.Running.{NamesFit, NoneWaits, ran};
 ghost use Rattle.rb_view.specs.Steady.{IsOfRun, IsSized, IsSteady, noted_now, shown_now};
 

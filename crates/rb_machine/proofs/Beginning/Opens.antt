@@ -22,12 +22,12 @@ use Rattle.rb_proc.specs.Executable.{IsExecutable}
 use Rattle.rb_proc.specs.Process.{Seen}
 use Rattle.rb_proc.specs.Sees.{FitSizes}
 use Rattle.rb_machine.specs.AtWork.{HasFewAlternates, IsAtWork}
-use Rattle.rb_machine.specs.Known.{IsKnown}
+use Rattle.rb_recovery.specs.Known.{IsKnown}
 use Rattle.rb_machine.specs.Loading.{AllSettle, first_seen}
 use Rattle.rb_machine.specs.Machine.{Seen as Machine, opening_seen}
 use Rattle.rb_machine.specs.Telling.{AreFreed}
-use Rattle.rb_machine.specs.Worlds.{counts_of, lines_of, memory_of, processes_of, world_of}
-use Rattle.rb_machine.specs.declared.links.Link.{Link}
+use Rattle.rb_recovery.specs.Worlds.{counts_of, lines_of, memory_of, processes_of, world_of}
+use Rattle.rb_recovery.specs.declared.links.Link.{Link}
 use Rattle.rb_machine.proofs.Knowing.FirstHeld.{opening_freed}
 use Rattle.rb_machine.proofs.Knowing.KnownTurns.{known_opening}
 use Rattle.rb_machine.proofs.Knowing.Sizes.{opening-processes}

@@ -28,8 +28,8 @@ use Rattle.rb_code.proofs.Executing.SoundSteps.{standing_has_settled}
 use Rattle.rb_code.proofs.Executing.StandsAgain.{opening_settles, settles_like, stands_like}
 use Rattle.rb_code.proofs.WholeRuns.ProcessesBegin.{zero_there}
 use Rattle.rb_meaning.specs.Environment.{natural}
-use Rattle.rb_machine.specs.Known.{CursorsBelow, IsBelow, IsCounted}
-use Rattle.rb_machine.specs.Rising.{NoneFalls, RiseAfter}
+use Rattle.rb_recovery.specs.Known.{CursorsBelow, IsBelow, IsCounted}
+use Rattle.rb_recovery.specs.Rising.{NoneFalls, RiseAfter}
 use Rattle.rb_machine.proofs.Knowing.CountsBelow.{back_below, cursors_same, entered_below, fallen_below, fallen_inside_below, freed_below, inside_below, left_below, moved_below, none_falls, none_rises, raised_below, same_falls, used_below, weaker}
 use Rattle.rb_machine.proofs.Beginning.FirstProcesses.{opens_at}
 use Rattle.rb_machine.proofs.Knowing.RunsRise.{run_step_rises}

@@ -16,17 +16,17 @@ use Rattle.rb_code.specs.WordMachine.WordRun.{WordWorld}
 use Rattle.rb_conv.specs.Conversations.{Conversation, memberships, talks}
 use Rattle.rb_proc.specs.Process.{Seen}
 use Rattle.rb_machine.specs.AtWork.{IsAtWork}
-use Rattle.rb_machine.specs.Known.{IsCounted, IsKnown, IsPlaced, IsTried}
-use Rattle.rb_machine.specs.Rejections.{changed}
-use Rattle.rb_machine.specs.Worlds.{counts_of, memory_of, processes_of, world_of}
-use Rattle.rb_machine.specs.declared.links.Link.{Link}
+use Rattle.rb_recovery.specs.Known.{IsCounted, IsKnown, IsPlaced, IsTried}
+use Rattle.rb_recovery.specs.Rejections.{changed}
+use Rattle.rb_recovery.specs.Worlds.{counts_of, memory_of, processes_of, world_of}
+use Rattle.rb_recovery.specs.declared.links.Link.{Link}
 use Rattle.rb_machine.proofs.Knowing.Alternates.TriedLevels.{used_tried}
-use Rattle.rb_machine.proofs.Changed.{change_there}
+use Rattle.rb_recovery.proofs.Changed.{change_there}
 use Rattle.rb_machine.proofs.Knowing.CountsBelow.{used_below, weaker}
 use Rattle.rb_machine.proofs.Knowing.KnownHere.{process_there}
 use Rattle.rb_machine.proofs.Linking.LinkedTurns.{later_linked, linked_used}
 use Rattle.rb_machine.proofs.Knowing.Placed.Kept.{placed_keeps}
-use Rattle.rb_machine.proofs.SeenWorlds.{processes_at}
+use Rattle.rb_recovery.proofs.SeenWorlds.{processes_at}
 
 -- what is written at a number stands there
 pub set_there : {A : Type 0} (xs : List A) (p : ℕ) (y x : A) → p < length xs → slice_get (set xs p y) p ≡ Some x → y ≡ x

@@ -18,8 +18,8 @@ use Rattle.rb_code.specs.Instructions.Plain.{Code}
 use Rattle.rb_code.specs.WordMachine.Turn.{Common, Copy, Standing}
 use Rattle.rb_code.specs.WordMachine.WordKind.{word_kind}
 use Rattle.rb_code.proofs.InWords.Fronts.{word_other}
-use Rattle.rb_machine.specs.Known.{CursorsBelow, IsBelow, RiseInward}
-use Rattle.rb_machine.specs.Rising.{NoneFalls, StaySame}
+use Rattle.rb_recovery.specs.Known.{CursorsBelow, IsBelow, RiseInward}
+use Rattle.rb_recovery.specs.Rising.{NoneFalls, StaySame}
 
 module _ (c : Code) where
   -- below a larger number

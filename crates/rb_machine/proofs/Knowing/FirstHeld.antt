@@ -12,8 +12,8 @@ use Rattle.rb_code.proofs.Executing.StandsAgain.{opening_settles}
 use Rattle.rb_code.proofs.WholeRuns.ProcessesBegin.{zero_there}
 use Rattle.rb_machine.specs.Loading.{first_seen}
 use Rattle.rb_machine.specs.Telling.{AreFreed, HoldsNone}
-use Rattle.rb_machine.specs.Worlds.{processes_of}
-use Rattle.rb_machine.proofs.Changed.{all_of_each}
+use Rattle.rb_recovery.specs.Worlds.{processes_of}
+use Rattle.rb_recovery.proofs.Changed.{all_of_each}
 use Rattle.rb_machine.proofs.Beginning.FirstProcesses.{opens_at}
 use Rattle.rb_machine.proofs.Knowing.HeldWhileSettling.{Holds, settling_holds}
 

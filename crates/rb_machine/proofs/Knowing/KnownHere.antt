@@ -22,13 +22,14 @@ use Rattle.rb_conv.specs.Conversations.{Conversation, conversation_at, membershi
 use Rattle.rb_proc.specs.Process.{Seen, alternate_for}
 use Rattle.rb_proc.specs.Runs.{CursorsRise}
 use Rattle.rb_machine.specs.AtWork.{HasFewAlternates, IsStep, MayActNow}
-use Rattle.rb_machine.specs.Cascade.{AreQuiet, MayRejectAt, TriesWith}
-use Rattle.rb_machine.specs.Known.{IsKnown, IsTried}
-use Rattle.rb_machine.specs.Channels.{conversation_in}
-use Rattle.rb_machine.specs.Stepping.{IsListed, MayLeave, MayStep}
-use Rattle.rb_machine.specs.Worlds.{CanRise, NoneWaits, counts_of, processes_of, world_of}
+use Rattle.rb_recovery.specs.Cascade.{AreQuiet, MayRejectAt, TriesWith}
+use Rattle.rb_recovery.specs.Known.{IsKnown, IsTried}
+use Rattle.rb_recovery.specs.Channels.{conversation_in}
+use Rattle.rb_machine.specs.Stepping.{MayStep}
+use Rattle.rb_recovery.specs.TestLines.{IsListed, MayLeave}
+use Rattle.rb_recovery.specs.Worlds.{CanRise, NoneWaits, counts_of, processes_of, world_of}
 use Rattle.rb_machine.proofs.Knowing.Alternates.EnteredBlocks.{level_counted}
-use Rattle.rb_machine.proofs.Changed.{all_of_each, last_found}
+use Rattle.rb_recovery.proofs.Changed.{all_of_each, last_found}
 
 -- a process of the machine is one of the world
 pub process_there : (procs : List Seen) (p : ℕ) (one : Seen) → slice_get procs p ≡ Some one → slice_get (processes_of procs) p ≡ Some one.process

@@ -16,10 +16,10 @@ use Rattle.rb_world.specs.Slots.{Slots}
 use Rattle.rb_conv.specs.Conversations.{Conversation, memberships}
 use Rattle.rb_proc.specs.Process.{Seen}
 use Rattle.rb_machine.specs.AtWork.{IsAtWork}
-use Rattle.rb_machine.specs.Channels.{AreNumbered, HoldsCursors}
-use Rattle.rb_machine.specs.Known.{IsKnown, IsPlaced}
-use Rattle.rb_machine.specs.Worlds.{counts_of, memory_of, world_of}
-use Rattle.rb_machine.specs.declared.links.Link.{Link}
+use Rattle.rb_recovery.specs.Channels.{AreNumbered, HoldsCursors}
+use Rattle.rb_recovery.specs.Known.{IsKnown, IsPlaced}
+use Rattle.rb_recovery.specs.Worlds.{counts_of, memory_of, world_of}
+use Rattle.rb_recovery.specs.declared.links.Link.{Link}
 
 module _ (c : Code) (groups : List Membership) (counts : List ℕ) (sound : IsSound c groups counts) where
   -- what is known of a process by its number

@@ -8,7 +8,7 @@ use Rattle.rb_code.specs.WordMachine.Turn.{Common, Copy, Standing}
 use Rattle.rb_code.specs.SoundCode.WellFormed.{IsSound}
 use Rattle.rb_code.specs.WordMachine.WordKind.{word_kind}
 use Rattle.rb_code.specs.WordMachine.WordRun.{WordWorld, opening_of}
-use Rattle.rb_machine.specs.Known.{IsKnown, IsPlaced}
+use Rattle.rb_recovery.specs.Known.{IsKnown, IsPlaced}
 use Rattle.rb_machine.proofs.Knowing.Alternates.AlternatesOfCode.{known_fits, word_opening_fits, word_turn_fits}
 use Rattle.rb_machine.proofs.Knowing.CountedKept.{counted_turn, opening_counted}
 use Rattle.rb_machine.proofs.Linking.LinkedTurns.{linked_turn, opening_linked}

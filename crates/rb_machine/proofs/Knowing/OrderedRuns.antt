@@ -19,7 +19,7 @@ use Rattle.rb_code.specs.WordMachine.Turn.{Common, Copy, Standing, want}
 use Rattle.rb_code.specs.SoundCode.WellFormed.{IsSound, ListsChannels}
 use Rattle.rb_code.specs.WordMachine.WordKind.{copied, released, word_kind}
 use Rattle.rb_code.specs.WordMachine.WordRun.{WordWorld, opening_of, opening_standings, word_run}
-use Rattle.rb_machine.specs.Known.{IsKnown, IsPlaced}
+use Rattle.rb_recovery.specs.Known.{IsKnown, IsPlaced}
 use Rattle.rb_machine.proofs.Knowing.BrokenTalks.{AllOuterIfBroken, opening_outer, turn_outer}
 use Rattle.rb_machine.proofs.Knowing.FirstHeld.{opening_holds_none}
 use Rattle.rb_machine.proofs.Knowing.KnownTurns.{known_opening, known_turn}

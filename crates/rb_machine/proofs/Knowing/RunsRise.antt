@@ -14,7 +14,7 @@ use Rattle.rb_code.specs.SoundCode.WellFormed.{ListsChannels}
 use Rattle.rb_code.specs.declared.instr.Instr.{Instr}
 use Rattle.rb_code.specs.declared.instr.Instr.TheVariants.{Turn, There, Enter, Start, Done}
 use Rattle.rb_code.proofs.Executing.SoundSteps.{some_steps}
-use Rattle.rb_machine.specs.Rising.{RiseAfter}
+use Rattle.rb_recovery.specs.Rising.{RiseAfter}
 use Rattle.rb_machine.proofs.Knowing.StepsRise.{step_rises}
 
 -- an execution whose first instruction traps

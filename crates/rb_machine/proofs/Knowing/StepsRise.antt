@@ -16,7 +16,7 @@ use Rattle.rb_code.proofs.Executing.Served.{is_turn, met}
 use Rattle.rb_code.proofs.Executing.StandingSteps as standing
 use Rattle.rb_code.proofs.Executing.Staying.{settling_fits}
 use Rattle.rb_code.proofs.Executing.Weaker.{rank}
-use Rattle.rb_machine.specs.Rising.{RiseAfter, SoundSettlingKeeps, SoundStepsRaise, StaySame}
+use Rattle.rb_recovery.specs.Rising.{RiseAfter, SoundSettlingKeeps, SoundStepsRaise, StaySame}
 use Rattle.rb_machine.proofs.Knowing.Rising.{KnownIn, comes_known}
 use Rattle.rb_machine.proofs.WordsKept.{natural_kept, natural_risen}
 

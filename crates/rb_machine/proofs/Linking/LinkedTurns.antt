@@ -20,7 +20,7 @@ use Rattle.rb_code.specs.WordMachine.Turn.{Common, Copy, Link, Standing, step}
 use Rattle.rb_code.specs.WordMachine.WordKind.{entered_at, word_kind}
 use Rattle.rb_code.specs.WordMachine.WordRun.{WordWorld, opening_of, opening_standings}
 use Rattle.rb_code.proofs.WholeRuns.MachineSteps.{IsSameProcess, LeavesLinks, settle_same, step_leaves}
-use Rattle.rb_machine.specs.Linked.{AreLinked, Fall, IsLinked, IsOwn}
+use Rattle.rb_recovery.specs.Linked.{AreLinked, Fall, IsLinked, IsOwn}
 
 pub fall_later : (t u : ℕ) (links : List Link) → t ≤ u → Fall t links → Fall u links
 fall_later t u [] le fall = omega (arith, fall)

@@ -14,14 +14,14 @@ use Rattle.rb_code.specs.WordMachine.WordKind.{cursor_in, word_kind}
 use Rattle.rb_conv.specs.Conversations.{Conversation}
 use Rattle.rb_proc.specs.Process.{Seen}
 use Rattle.rb_machine.specs.AtWork.{IsAtWork}
-use Rattle.rb_machine.specs.Channels.{AreNumbered, NoneFell, cursor_at, outermost_copy}
-use Rattle.rb_machine.specs.Known.{CursorsBelow}
+use Rattle.rb_recovery.specs.Channels.{AreNumbered, NoneFell, cursor_at, outermost_copy}
+use Rattle.rb_recovery.specs.Known.{CursorsBelow}
 use Rattle.rb_machine.specs.Looking.{CopiesBelow, IsViewBetween, IsViewOn}
-use Rattle.rb_machine.specs.Reading.{AreCounted}
-use Rattle.rb_machine.specs.Worlds.{processes_of}
-use Rattle.rb_machine.specs.declared.channels.looking.ChannelView.{ChannelView}
-use Rattle.rb_machine.specs.declared.links.Link.{Link}
-use Rattle.rb_machine.proofs.Passing.RoomsAndMessages.{count_is, from_is, sent_is, taken_is}
+use Rattle.rb_recovery.specs.Reading.{AreCounted}
+use Rattle.rb_recovery.specs.Worlds.{processes_of}
+use Rattle.rb_machine.specs.declared.channel_view.ChannelView.{ChannelView}
+use Rattle.rb_recovery.specs.declared.links.Link.{Link}
+use Rattle.rb_recovery.proofs.Passing.RoomsAndMessages.{count_is, from_is, sent_is, taken_is}
 use Rattle.rb_machine.proofs.ReadAt.{process_there}
 
 -- the number that room is counted from is no greater than any cursor

@@ -7,8 +7,8 @@ use Rattle.rb_code.proofs.WholeRuns.ProcessesBegin.{all_there}
 use Rattle.rb_conv.specs.Conversations.{Conversation}
 use Rattle.rb_proc.specs.Process.{Seen}
 use Rattle.rb_machine.specs.AtWork.{IsAtWork}
-use Rattle.rb_machine.specs.Reading.{AreCounted}
-use Rattle.rb_machine.specs.declared.links.Link.{Link}
+use Rattle.rb_recovery.specs.Reading.{AreCounted}
+use Rattle.rb_recovery.specs.declared.links.Link.{Link}
 use Rattle.rb_machine.proofs.Knowing.KnownNumbers.{numbered_at_work}
 use Rattle.rb_machine.proofs.ReadAt.{process_there}
 

@@ -18,8 +18,8 @@ use Rattle.rb_conv.specs.Conversations.{Conversation, memberships}
 use Rattle.rb_proc.specs.Executable.{HasNext}
 use Rattle.rb_proc.specs.Process.{Seen}
 use Rattle.rb_machine.specs.AtWork.{IsAtWork, MayActNow}
-use Rattle.rb_machine.specs.Worlds.{counts_of, memory_of}
-use Rattle.rb_machine.specs.declared.links.Link.{Link}
+use Rattle.rb_recovery.specs.Worlds.{counts_of, memory_of}
+use Rattle.rb_recovery.specs.declared.links.Link.{Link}
 use Rattle.rb_machine.proofs.Knowing.KnownNumbers.{placed}
 use Rattle.rb_machine.proofs.Knowing.Placed.Behind.{has_next}
 

@@ -7,7 +7,7 @@ use Rattle.std.proofs.lemmas.List.Sums.{sum_by-cons, sum_by_more}
 use Rattle.std.proofs.lemmas.Simd.{map-map}
 use Rattle.rb_world.proofs.ListFacts.{heads_same}
 use Rattle.rb_proc.specs.Process.{Seen}
-use Rattle.rb_machine.specs.Worlds.{lines_of, processes_of}
+use Rattle.rb_recovery.specs.Worlds.{lines_of, processes_of}
 use Rattle.rb_machine.proofs.Written.{all_written}
 
 -- a process whose released lines were forgotten, and how many they were

@@ -8,7 +8,7 @@ use Rattle.rb_world.specs.World.{Process, ProcessStatus, Running, Finished, Fail
 use Rattle.rb_code.specs.WordMachine.Turn.{Copy, Standing}
 use Rattle.rb_proc.specs.Process.{Seen}
 use Rattle.rb_machine.specs.Telling.{ended_at, ended_by, ended_if, is_running, running_of}
-use Rattle.rb_machine.specs.Worlds.{processes_of}
+use Rattle.rb_recovery.specs.Worlds.{processes_of}
 use Rattle.rb_machine.specs.declared.telling.Ending.{Ending}
 use Rattle.rb_machine.specs.declared.telling.Ending.TheVariants as ending
 

@@ -12,9 +12,9 @@ use Rattle.rb_code.specs.Instructions.Plain.{Code}
 use Rattle.rb_code.specs.WordMachine.Turn.{Copy, Standing}
 use Rattle.rb_code.specs.WordMachine.WordKind.{word_kind}
 use Rattle.rb_proc.specs.Process.{Seen, kind_of}
-use Rattle.rb_machine.specs.Moves.{passes_of}
+use Rattle.rb_recovery.specs.TestLines.{passes_of}
 use Rattle.rb_machine.specs.Telling.{AreFreed, GoesOnThere, HoldsNone, IsFreed, SameBut, WasAlone, ended_by, ended_if, ends_told, freed_one, is_running, running_of}
-use Rattle.rb_machine.specs.Worlds.{NoneWaits, processes_of}
+use Rattle.rb_recovery.specs.Worlds.{NoneWaits, processes_of}
 use Rattle.rb_machine.specs.declared.telling.Ending.{Ending}
 use Rattle.rb_machine.specs.declared.telling.Ending.TheVariants as ending
 use Rattle.rb_machine.proofs.Releasing.EndsTold.{by_who_ran}

@@ -10,15 +10,15 @@ use Rattle.rb_code.specs.WordMachine.WordRun.{counts_sent, counts_taken}
 use Rattle.rb_conv.specs.Conversations.{Conversation, memberships, talks}
 use Rattle.rb_proc.specs.Process.{Seen}
 use Rattle.rb_machine.specs.AtWork.{IsAtWork}
-use Rattle.rb_machine.specs.Known.{IsKnown}
+use Rattle.rb_recovery.specs.Known.{IsKnown}
 use Rattle.rb_machine.specs.Machine.{IsTied}
-use Rattle.rb_machine.specs.Moves.{world}
-use Rattle.rb_machine.specs.Reading.{HasLent}
+use Rattle.rb_recovery.specs.Parts.{world}
+use Rattle.rb_recovery.specs.Reading.{HasLent}
 use Rattle.rb_machine.specs.Resting.{AreNoted, AreTallied}
 use Rattle.rb_machine.specs.Telling.{AreFreed, running_of}
-use Rattle.rb_machine.specs.Worlds.{NoneWaits, counts_of, lines_of, memory_of, processes_of, world_of}
-use Rattle.rb_machine.specs.declared.links.Link.{Link}
-use Rattle.rb_machine.specs.declared.parts.Parts.{Parts}
+use Rattle.rb_recovery.specs.Worlds.{NoneWaits, counts_of, lines_of, memory_of, processes_of, world_of}
+use Rattle.rb_recovery.specs.declared.links.Link.{Link}
+use Rattle.rb_recovery.specs.declared.parts.Parts.{Parts}
 use Rattle.rb_machine.specs.declared.rests.Resting.{Resting}
 use Rattle.rb_machine.proofs.Turning.TurnOfParts.{none_wait}
 

@@ -12,7 +12,7 @@ use Rattle.rb_code.specs.WordMachine.Turn.{Copy, Standing}
 use Rattle.rb_code.specs.WordMachine.WordKind.{word_kind}
 use Rattle.rb_proc.specs.Process.{Seen}
 use Rattle.rb_machine.specs.Telling.{freed_one}
-use Rattle.rb_machine.specs.Worlds.{lines_of, processes_of}
+use Rattle.rb_recovery.specs.Worlds.{lines_of, processes_of}
 use Rattle.rb_machine.proofs.Written.{all_written}
 
 -- one more of them

@@ -8,11 +8,11 @@ use Rattle.rb_code.specs.Instructions.Plain.{Code}
 use Rattle.rb_code.specs.WordMachine.Turn.{Common, Copy, Standing}
 use Rattle.rb_code.specs.WordMachine.WordRun.{WordWorld}
 use Rattle.rb_proc.specs.Process.{Seen}
-use Rattle.rb_machine.specs.Moves.{world}
+use Rattle.rb_recovery.specs.Parts.{world}
 use Rattle.rb_machine.specs.Telling.{AreFreed, GoesOn, IsFreed, is_running}
 use Rattle.rb_machine.specs.Turns.{runs_there}
-use Rattle.rb_machine.specs.Worlds.{kind_with, processes_of}
-use Rattle.rb_machine.specs.declared.parts.Parts.{Parts}
+use Rattle.rb_recovery.specs.Worlds.{kind_with, processes_of}
+use Rattle.rb_recovery.specs.declared.parts.Parts.{Parts}
 use Rattle.rb_machine.proofs.Knowing.KnownHere.{process_there}
 use Rattle.rb_machine.proofs.Releasing.Finished.{freed_same}
 use Rattle.rb_machine.proofs.Unmoved.StillBare.{OnlyCounted, waits_counted}

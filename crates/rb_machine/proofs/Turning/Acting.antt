@@ -17,7 +17,7 @@ use Rattle.rb_proc.specs.declared.answers.Wanted.TheVariants as wanted
 use Rattle.rb_machine.specs.AtWork.{IsStep, MayActNow}
 use Rattle.rb_machine.specs.Moves.{HasMoved}
 use Rattle.rb_machine.specs.declared.came.Came.{Came}
-use Rattle.rb_machine.specs.declared.parts.Parts.{Parts}
+use Rattle.rb_recovery.specs.declared.parts.Parts.{Parts}
 
 -- a process that may act wants what stands first in it
 pub wanted_here : (c : Code) (one : Seen) → MayActNow one → wanted_of c one.process ≡ wanted_by (want c one.process.state)

@@ -13,18 +13,20 @@ use Rattle.rb_conv.specs.Conversations.{Conversation, memberships}
 use Rattle.rb_proc.specs.Process.{Seen}
 use Rattle.rb_proc.specs.Sees.{AreSized}
 use Rattle.rb_proc.proofs.Leaving.{none_there}
-use Rattle.rb_machine.specs.Cascade.{SameGroups}
+use Rattle.rb_recovery.specs.Cascade.{SameGroups}
 use Rattle.rb_machine.specs.Ends.{CostsTheSame, Ends, Finishes, HasCome, HasEnded, IsUnderWay, LeadsTo, SomeTurnCame, SomeTurnIsUnderWay, named_by_test, named_yet}
-use Rattle.rb_machine.specs.Moves.{HasMoved, IsLeft, passes_of, world}
-use Rattle.rb_machine.specs.Stepping.{HasTaken}
+use Rattle.rb_machine.specs.Moves.{HasMoved, IsLeft}
+use Rattle.rb_recovery.specs.Parts.{world}
+use Rattle.rb_recovery.specs.TestLines.{passes_of}
+use Rattle.rb_recovery.specs.TestLines.{HasTaken}
 use Rattle.rb_machine.specs.Telling.{GoesOn, IsQuiet, takes_nothing_back}
 use Rattle.rb_machine.specs.Turns.{runs_there}
-use Rattle.rb_machine.specs.Work.{named_accepted, releasing, undoing}
-use Rattle.rb_machine.specs.Worlds.{NoneWaits, counts_of, kind_with, lines_of, memory_of, processes_of, world_of}
+use Rattle.rb_recovery.specs.Work.{named_accepted, releasing, undoing}
+use Rattle.rb_recovery.specs.Worlds.{NoneWaits, counts_of, kind_with, lines_of, memory_of, processes_of, world_of}
 use Rattle.rb_machine.specs.declared.came.Came.{Came}
 use Rattle.rb_machine.specs.declared.moves.Move.{Move}
 use Rattle.rb_machine.specs.declared.moves.Move.TheVariants as did
-use Rattle.rb_machine.specs.declared.parts.Parts.{Parts}
+use Rattle.rb_recovery.specs.declared.parts.Parts.{Parts}
 use Rattle.rb_machine.proofs.Knowing.KnownHere.{process_there}
 use Rattle.rb_machine.proofs.Releasing.Waited.{waits_on, waits_ran}
 use Rattle.rb_machine.proofs.Turning.TurnsTaken.{took_ran}

@@ -17,9 +17,9 @@ use Rattle.rb_proc.specs.Executable.{RestartsAt}
 use Rattle.rb_proc.specs.Process.{Seen}
 use Rattle.rb_proc.proofs.Landing.{turn_runs}
 use Rattle.rb_machine.specs.AtWork.{IsAtWork, MayActNow}
-use Rattle.rb_machine.specs.Rejections.{changed}
+use Rattle.rb_recovery.specs.Rejections.{changed}
 use Rattle.rb_machine.specs.Telling.{GoesOn, HoldsNone}
-use Rattle.rb_machine.specs.declared.links.Link.{Link}
+use Rattle.rb_recovery.specs.declared.links.Link.{Link}
 use Rattle.rb_machine.proofs.Knowing.KnownHere.{process_there}
 use Rattle.rb_machine.proofs.Knowing.Placed.Behind.{IsBusy, behind}
 use Rattle.rb_machine.proofs.Knowing.Placed.Wants.{placed_stands}

@@ -21,16 +21,16 @@ use Rattle.rb_conv.proofs.TalksAfterCalls.{members_stay, talks_are_the_worlds}
 use Rattle.rb_proc.specs.Entries.{EntersAs, WantsBlock, entered_process}
 use Rattle.rb_proc.specs.Process.{Seen, kind_of}
 use Rattle.rb_machine.specs.AtWork.{IsAtWork, MayActNow}
-use Rattle.rb_machine.specs.Cascade.{SameGroups}
+use Rattle.rb_recovery.specs.Cascade.{SameGroups}
 use Rattle.rb_machine.specs.Entries.{IsListedBlock, entry_at}
-use Rattle.rb_machine.specs.Known.{IsPlaced}
-use Rattle.rb_machine.specs.Rejections.{changed}
-use Rattle.rb_machine.specs.Worlds.{counts_of, kind_with, link_of, memory_of, processes_of, world_of}
-use Rattle.rb_machine.specs.declared.links.Link.{Link}
-use Rattle.rb_machine.proofs.Changed.{change_there}
+use Rattle.rb_recovery.specs.Known.{IsPlaced}
+use Rattle.rb_recovery.specs.Rejections.{changed}
+use Rattle.rb_recovery.specs.Worlds.{counts_of, kind_with, link_of, memory_of, processes_of, world_of}
+use Rattle.rb_recovery.specs.declared.links.Link.{Link}
+use Rattle.rb_recovery.proofs.Changed.{change_there}
 use Rattle.rb_machine.proofs.Knowing.KnownHere.{process_there}
 use Rattle.rb_machine.proofs.Knowing.Placed.Wants.{IsEntering, enters_block}
-use Rattle.rb_machine.proofs.SeenWorlds.{processes_at}
+use Rattle.rb_recovery.proofs.SeenWorlds.{processes_at}
 
 -- a move without rejections or a pass has come to the world of these parts
 pub record ComesTo (procs : List Seen) (table : List Conversation) (memory : Common) (turned : TurnKind)

@@ -15,11 +15,12 @@ use Rattle.rb_proc.specs.Process.{Seen, wanted_by}
 use Rattle.rb_proc.specs.declared.answers.Wanted.{Wanted}
 use Rattle.rb_proc.specs.declared.answers.Wanted.TheVariants as wanted
 use Rattle.rb_machine.specs.AtWork.{IsAtWork, IsStep, MayAct}
-use Rattle.rb_machine.specs.Moves.{IsReadyAt, IsReceiverIf, ReceivesThere, WantsThere}
+use Rattle.rb_recovery.specs.Innermost.{WantsThere}
+use Rattle.rb_machine.specs.Moves.{IsReadyAt, IsReceiverIf, ReceivesThere}
 use Rattle.rb_machine.specs.Receipts.{is_receipt_that_waits, receipt}
-use Rattle.rb_machine.specs.Work.{is_entry as enters_by}
-use Rattle.rb_machine.specs.Worlds.{kind_with, world_of}
-use Rattle.rb_machine.specs.declared.links.Link.{Link as Held}
+use Rattle.rb_recovery.specs.Work.{is_entry as enters_by}
+use Rattle.rb_recovery.specs.Worlds.{kind_with, world_of}
+use Rattle.rb_recovery.specs.declared.links.Link.{Link as Held}
 use Rattle.rb_machine.specs.declared.moves.ReadyFor.TheVariants as ready
 use Rattle.rb_machine.proofs.Turning.Acting.{done_idles, is_done, is_entry, is_maybe, is_message, look_steps, receipt_steps, send_steps, send_waits, starts_or_acts, step_steps}
 use Rattle.rb_machine.proofs.Working.MoveWork.{look_names, receipt_names, send_names, step_names}

@@ -10,7 +10,7 @@ use Rattle.rb_proc.specs.Given.{alternate_by}
 use Rattle.rb_proc.specs.Process.{StepsTo, alternate_for, kind_of, step_of}
 use Rattle.rb_proc.specs.declared.answers.Outcome.TheVariants as outcome
 use Rattle.rb_proc.specs.declared.answers.Wanted.{Wanted}
-use Rattle.rb_machine.specs.declared.links.Link.{Link}
+use Rattle.rb_recovery.specs.declared.links.Link.{Link}
 use Rattle.rb_machine.proofs.Turning.StepFacts.{SameProcess, held_test, same_process, went_on}
 
 -- where an acceptance test held, number and last kept turn are the same too

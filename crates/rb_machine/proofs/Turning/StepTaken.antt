@@ -19,20 +19,22 @@ use Rattle.rb_proc.specs.Process.{Seen, StepsTo, alternate_for, step_of}
 use Rattle.rb_proc.specs.declared.answers.Outcome.{Outcome}
 use Rattle.rb_proc.specs.declared.answers.Outcome.TheVariants as outcome
 use Rattle.rb_machine.specs.AtWork.{IsAtWork, IsStep, MayAct}
-use Rattle.rb_machine.specs.Cascade.{AreQuiet, MayRejectAt}
+use Rattle.rb_recovery.specs.Cascade.{AreQuiet, MayRejectAt}
 use Rattle.rb_machine.specs.Ends.{LeadsTo, links_yet}
-use Rattle.rb_machine.specs.Moves.{passes_of, world}
-use Rattle.rb_machine.specs.Channels.{conversation_in}
-use Rattle.rb_machine.specs.Stepping.{AddsLink, HasDoneAt, HasKept, HasTaken, HoldsTest, IsListed, MayLeave, MayStep, turn_kept}
+use Rattle.rb_recovery.specs.Parts.{world}
+use Rattle.rb_recovery.specs.TestLines.{passes_of}
+use Rattle.rb_recovery.specs.Channels.{conversation_in}
+use Rattle.rb_machine.specs.Stepping.{AddsLink, HasDoneAt, HasKept, MayStep, turn_kept}
+use Rattle.rb_recovery.specs.TestLines.{HasTaken, HoldsTest, IsListed, MayLeave}
 use Rattle.rb_machine.specs.Telling.{GoesOn}
-use Rattle.rb_machine.specs.Work.{undoing}
-use Rattle.rb_machine.specs.Worlds.{NoneWaits, kind_with, memory_of, processes_of, world_of}
-use Rattle.rb_machine.specs.declared.links.Link.{Link as Linked}
+use Rattle.rb_recovery.specs.Work.{undoing}
+use Rattle.rb_recovery.specs.Worlds.{NoneWaits, kind_with, memory_of, processes_of, world_of}
+use Rattle.rb_recovery.specs.declared.links.Link.{Link as Linked}
 use Rattle.rb_machine.specs.declared.moves.Move.{Move}
 use Rattle.rb_machine.specs.declared.moves.Move.TheVariants as did
-use Rattle.rb_machine.specs.declared.parts.Parts.{Parts}
+use Rattle.rb_recovery.specs.declared.parts.Parts.{Parts}
 use Rattle.rb_machine.proofs.Knowing.KnownHere.{are_quiet, is_listed, may_leave, may_reject, may_step, process_there}
-use Rattle.rb_machine.proofs.Changed.{change_after}
+use Rattle.rb_recovery.proofs.Changed.{change_after}
 use Rattle.rb_machine.proofs.Turning.TakenSteps.{HasStepped}
 use Rattle.rb_machine.proofs.Turning.TakenSteps as taken
 

@@ -18,11 +18,12 @@ use Rattle.rb_conv.proofs.TalksAfterCalls.{map_changed}
 use Rattle.rb_proc.specs.Process.{Seen, StepsTo, alternate_for, step_of}
 use Rattle.rb_proc.specs.declared.answers.Outcome.{Outcome}
 use Rattle.rb_proc.specs.declared.answers.Outcome.TheVariants as outcome
-use Rattle.rb_machine.specs.Channels.{conversation_in}
-use Rattle.rb_machine.specs.Stepping.{HasTaken, HoldsTest, IsListed, MayLeave, MayStep, SettlesOnceAccepted, turn_kept}
-use Rattle.rb_machine.specs.Worlds.{NoneWaits, kind_with, link_of, memory_of, processes_of, world_of}
-use Rattle.rb_machine.specs.declared.links.Link.{Link as Linked}
-use Rattle.rb_machine.proofs.Changed.{all_changed, change_after, change_twice, none_last, same_there}
+use Rattle.rb_recovery.specs.Channels.{conversation_in}
+use Rattle.rb_machine.specs.Stepping.{MayStep, turn_kept}
+use Rattle.rb_recovery.specs.TestLines.{HasTaken, HoldsTest, IsListed, MayLeave, SettlesOnceAccepted}
+use Rattle.rb_recovery.specs.Worlds.{NoneWaits, kind_with, link_of, memory_of, processes_of, world_of}
+use Rattle.rb_recovery.specs.declared.links.Link.{Link as Linked}
+use Rattle.rb_recovery.proofs.Changed.{all_changed, change_after, change_twice, none_last, same_there}
 use Rattle.rb_machine.proofs.Knowing.KnownHere.{process_there}
 use Rattle.rb_machine.proofs.Turning.StepFacts.{HasTrapped, HeldTest, WentOn, has_trapped, held_inside, held_only, held_settles, held_test, relinked, same_process, step_relinked, went_on, went_settled}
 

@@ -18,12 +18,14 @@ use Rattle.rb_conv.specs.Conversations.{memberships}
 use Rattle.rb_proc.specs.Process.{Seen}
 use Rattle.rb_trace.specs.Report.{told_of}
 use Rattle.rb_machine.specs.AtWork.{IsAtWork}
-use Rattle.rb_machine.specs.Known.{IsKnown}
-use Rattle.rb_machine.specs.Moves.{HasMoved, IsLeft, passes_of, world}
+use Rattle.rb_recovery.specs.Known.{IsKnown}
+use Rattle.rb_machine.specs.Moves.{HasMoved, IsLeft}
+use Rattle.rb_recovery.specs.Parts.{world}
+use Rattle.rb_recovery.specs.TestLines.{passes_of}
 use Rattle.rb_machine.specs.Telling.{AreFreed, SameBut, WasAlone, ends_told, is_alone, is_running, running_of}
-use Rattle.rb_machine.specs.Worlds.{NoneWaits, counts_of, kind_with, lines_of, memory_of, processes_of, world_of}
+use Rattle.rb_recovery.specs.Worlds.{NoneWaits, counts_of, kind_with, lines_of, memory_of, processes_of, world_of}
 use Rattle.rb_machine.specs.declared.came.Came.{Came}
-use Rattle.rb_machine.specs.declared.parts.Parts.{Parts}
+use Rattle.rb_recovery.specs.declared.parts.Parts.{Parts}
 use Rattle.rb_machine.proofs.Together.Alone.{moves_alone}
 use Rattle.rb_machine.proofs.Knowing.KnownTurns.{known_turn}
 use Rattle.rb_machine.proofs.Knowing.Sizes.{turn-processes}

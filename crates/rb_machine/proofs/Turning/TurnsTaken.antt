@@ -11,7 +11,7 @@ use Rattle.rb_code.specs.WordMachine.WordRun.{WordWorld}
 use Rattle.rb_proc.specs.Process.{Seen}
 use Rattle.rb_machine.specs.Telling.{is_running}
 use Rattle.rb_machine.specs.Turns.{runs_there}
-use Rattle.rb_machine.specs.Worlds.{processes_of}
+use Rattle.rb_recovery.specs.Worlds.{processes_of}
 
 -- who runs has this status
 pub status_running : (status : ProcessStatus) → is_running status ≡ true → status ≡ Running

@@ -10,7 +10,7 @@ use Rattle.rb_world.specs.Reject.{Happened, fallen, reject}
 use Rattle.rb_world.specs.Turn.{Moved, accepted, acts, bounded, by_status, enter_either, enters, is_over, join, most_levels, move, moves, one_used, open_at, receives, runs, stepped, steps, trapped, tried_at, turn_used, undone, waits}
 use Rattle.rb_world.specs.World.{Level, Process, ProcessStatus, Running, Finished, FailedWith, Talk, World, copy_of, last_of, process_levels, talk_at, with_process}
 use Rattle.rb_machine.specs.Resting.{IsBare, is_still}
-use Rattle.rb_machine.proofs.Changed.{same_there}
+use Rattle.rb_recovery.proofs.Changed.{same_there}
 
 untrue : false ≡ true → ⊥
 untrue e = cc

@@ -11,12 +11,12 @@ use Rattle.rb_code.specs.WordMachine.WordRun.{WordWorld}
 use Rattle.rb_conv.specs.Conversations.{memberships}
 use Rattle.rb_proc.specs.Process.{Seen}
 use Rattle.rb_trace.specs.Report.{told_of}
-use Rattle.rb_machine.specs.Known.{IsKnown}
+use Rattle.rb_recovery.specs.Known.{IsKnown}
 use Rattle.rb_machine.specs.Machine.{HasTurned, IsTied, seen}
-use Rattle.rb_machine.specs.Moves.{world}
+use Rattle.rb_recovery.specs.Parts.{world}
 use Rattle.rb_machine.specs.Resting.{AllRest, RestsAs}
-use Rattle.rb_machine.specs.Worlds.{NoneWaits, counts_of, lines_of}
-use Rattle.rb_machine.specs.declared.parts.Parts.{Parts}
+use Rattle.rb_recovery.specs.Worlds.{NoneWaits, counts_of, lines_of}
+use Rattle.rb_recovery.specs.declared.parts.Parts.{Parts}
 use Rattle.rb_machine.specs.declared.rests.Resting.{Resting}
 use Rattle.rb_machine.proofs.Knowing.KnownTurns.{known_turn}
 use Rattle.rb_machine.proofs.Releasing.LentAtWork.{waits_none}

@@ -20,7 +20,7 @@ use Rattle.rb_proc.specs.declared.answers.Wanted.{Wanted}
 use Rattle.rb_proc.specs.declared.answers.Wanted.TheVariants as wanted
 use Rattle.rb_machine.specs.AtWork.{IsStep}
 use Rattle.rb_machine.specs.Moves.{IsEntryReady, IsReadyAt}
-use Rattle.rb_machine.specs.Work.{enters_there, inside_one, is_entry, is_kept, levels_put_back, looking, named_by_acts, named_by_receipt, named_by_status, named_by_steps, named_in_turn, named_running, named_there, named_within, places_put_back, put_back_by, touched_by, touched_in, undoing}
+use Rattle.rb_recovery.specs.Work.{enters_there, inside_one, is_entry, is_kept, levels_put_back, looking, named_by_acts, named_by_receipt, named_by_status, named_by_steps, named_in_turn, named_running, named_there, named_within, places_put_back, put_back_by, touched_by, touched_in, undoing}
 use Rattle.rb_machine.specs.declared.moves.ReadyFor.{ReadyFor}
 use Rattle.rb_machine.specs.declared.moves.ReadyFor.TheVariants as ready
 use Rattle.rb_machine.proofs.Turning.Acting.{is_start, is_step}

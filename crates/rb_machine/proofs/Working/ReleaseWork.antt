@@ -8,10 +8,10 @@ use Rattle.rb_code.specs.Instructions.Plain.{Code}
 use Rattle.rb_code.specs.WordMachine.Turn.{Copy, Standing}
 use Rattle.rb_proc.specs.Process.{Seen, kind_of}
 use Rattle.rb_machine.specs.Telling.{freed_one}
-use Rattle.rb_machine.specs.Work.{releases_some, releasing}
-use Rattle.rb_machine.specs.Worlds.{lines_of}
+use Rattle.rb_recovery.specs.Work.{releases_some, releasing}
+use Rattle.rb_recovery.specs.Worlds.{lines_of}
 use Rattle.rb_machine.proofs.Releasing.Dropped.{as_before}
-use Rattle.rb_machine.proofs.Beginning.SomeCode.{some_code}
+use Rattle.rb_recovery.proofs.Beginning.SomeCode.{some_code}
 
 -- A process releases lines only where it has no level and holds some.
 module _ (c : Code) (ticks later : ℕ) (few : later ≤ ticks + 2) where

@@ -13,14 +13,14 @@ use Rattle.rb_proc.specs.Work.{named_in_step}
 use Rattle.rb_proc.specs.declared.answers.Outcome.TheVariants as outcome
 use Rattle.rb_machine.specs.Stepping.{HasDoneAt, turn_kept}
 use Rattle.rb_machine.specs.Ends.{named_by_test, named_yet}
-use Rattle.rb_machine.specs.Moves.{world}
-use Rattle.rb_machine.specs.Work.{named_accepted, named_accepted_at, named_at_line, named_behind, named_by_steps}
-use Rattle.rb_machine.specs.Worlds.{memory_of, processes_of, world_of}
-use Rattle.rb_machine.specs.declared.links.Link.{Link as Linked}
+use Rattle.rb_recovery.specs.Parts.{world}
+use Rattle.rb_recovery.specs.Work.{named_accepted, named_accepted_at, named_at_line, named_behind, named_by_steps}
+use Rattle.rb_recovery.specs.Worlds.{memory_of, processes_of, world_of}
+use Rattle.rb_recovery.specs.declared.links.Link.{Link as Linked}
 use Rattle.rb_machine.specs.declared.moves.Move.{Move}
 use Rattle.rb_machine.specs.declared.moves.Move.TheVariants as did
-use Rattle.rb_machine.specs.declared.parts.Parts.{Parts}
-use Rattle.rb_machine.proofs.Changed.{change_twice}
+use Rattle.rb_recovery.specs.declared.parts.Parts.{Parts}
+use Rattle.rb_recovery.proofs.Changed.{change_twice}
 use Rattle.rb_machine.proofs.Knowing.KnownHere.{process_there}
 use Rattle.rb_machine.proofs.Turning.StepFacts.{HeldTest, relinked, step_relinked}
 use Rattle.rb_machine.proofs.Turning.StepTaken.{AtStep}

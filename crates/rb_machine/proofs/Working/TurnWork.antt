@@ -15,8 +15,8 @@ use Rattle.rb_code.specs.WordMachine.Turn.{Common, Copy, Standing, want}
 use Rattle.rb_code.specs.WordMachine.WordKind.{word_kind}
 use Rattle.rb_code.specs.WordMachine.WordRun.{WordWorld}
 use Rattle.rb_machine.specs.Telling.{AreFreed, HoldsNone, IsFreed}
-use Rattle.rb_machine.specs.Work.{enters_there, is_entry, is_kept, looking, move_work, named_by_acts, named_by_status, named_in_turn, named_there, named_within, releases_some, releasing, turn_work, undoing}
-use Rattle.rb_machine.proofs.Changed.{all_changed}
+use Rattle.rb_recovery.specs.Work.{enters_there, is_entry, is_kept, looking, move_work, named_by_acts, named_by_status, named_in_turn, named_there, named_within, releases_some, releasing, turn_work, undoing}
+use Rattle.rb_recovery.proofs.Changed.{all_changed}
 use Rattle.rb_machine.proofs.Releasing.Finished.{no_lines}
 
 -- the move and the release together

@@ -10,7 +10,7 @@ ghost use Rattle.rb_proc.specs.Views.{IsEntryOf, IsViewOf};
 ghost use Rattle.rb_machine.specs.Looking.{IsViewOn};
 
 use super::Machine;
-use crate::channels::looking::{ChannelView, view_at};
+use crate::channel_view::{ChannelView, view_at};
 use crate::looking::{
     alternate_at, entered_at, held_at, is_broken_at, last_held_at, level_at, levels_at, message_at,
     status_at,

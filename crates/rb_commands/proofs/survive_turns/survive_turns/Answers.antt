@@ -3,7 +3,7 @@ use Rattle.rb_code.specs.Instructions.Plain.{code}
 use Rattle.rb_code.specs.WordMachine.WordRun.{word_run}
 use Rattle.rb_conv.specs.Conversations.{memberships, opening}
 use Rattle.rb_machine.specs.Machine.{Seen, opening_seen}
-use Rattle.rb_machine.specs.Survivors.{word_survivors}
+use Rattle.rb_recovery.specs.Survivors.{word_survivors}
 use Rattle.rb_world.specs.Text.{record_text}
 use Rattle.rb_stages.specs.Judgement.{Writes}
 use Rattle.rb_stages.proofs.Answering.{survival_ends}

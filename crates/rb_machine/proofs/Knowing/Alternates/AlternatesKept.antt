@@ -16,7 +16,7 @@ use Rattle.rb_world.proofs.ListFacts.{Each-change_at, Each-map, none_some, slice
 use Rattle.rb_world.proofs.Members.PassTogether.{map_found}
 use Rattle.rb_world.proofs.Members.PresentKept.{AreOrdered, MostPresent, present_kept}
 use Rattle.rb_world.proofs.Members.PresentLevels.{MayTry, present_here}
-use Rattle.rb_machine.specs.Known.{IsTalked, IsTried}
+use Rattle.rb_recovery.specs.Known.{IsTalked, IsTried}
 use Rattle.rb_machine.proofs.Knowing.Alternates.EnteredBlocks.{IsCountedBlock}
 use Rattle.rb_machine.proofs.Knowing.Alternates.TriedLevels.{AreTried, HasNext, among_tried, back_among, fallen_inside_tried, front_tried, inside_among, leaves_tried, more_tried, next_tried, none_tried, raised_tried, used_tried}
 use Rattle.rb_machine.proofs.Knowing.Alternates.TalksKept.{again_talked, broken_talked, opening_talked, reset_talked}

@@ -18,7 +18,7 @@ use Rattle.rb_code.specs.SoundCode.WellFormed.{IsBlock, IsGroup, IsSound}
 use Rattle.rb_code.specs.WordMachine.WordKind.{word_kind}
 use Rattle.rb_code.specs.WordMachine.WordRun.{WordWorld, opening_of, opening_standings}
 use Rattle.rb_code.proofs.WholeRuns.ProcessesBegin.{all_there}
-use Rattle.rb_machine.specs.Known.{IsKnown, IsPlaced}
+use Rattle.rb_recovery.specs.Known.{IsKnown, IsPlaced}
 use Rattle.rb_machine.proofs.Knowing.Alternates.AlternatesKept.{AlternatesFit, AlternatesMayFit, alternates_kept, opening_fits}
 use Rattle.rb_machine.proofs.Knowing.Alternates.EnteredBlocks.{IsCountedBlock, is_block, level_counted, want_counted}
 

@@ -6,7 +6,7 @@ use Rattle.rb_world.specs.Reject.{broken_talk, first_again, is_below, reset_belo
 use Rattle.rb_world.specs.Turn.{opening_talks}
 use Rattle.rb_world.specs.Standing.{Each}
 use Rattle.rb_world.proofs.ListFacts.{Each-change_at, none_some, some_same}
-use Rattle.rb_machine.specs.Known.{IsTalked}
+use Rattle.rb_recovery.specs.Known.{IsTalked}
 
 -- one of those that may return to the first alternate
 reset_one : (P : ℕ → Talk → Type 0) (n : ℕ) (talk : Talk) (below : Bool) → P n talk → P n (first_again talk)

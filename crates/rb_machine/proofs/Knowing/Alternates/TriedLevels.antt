@@ -9,7 +9,7 @@ use Rattle.rb_world.specs.Standing.{Each}
 use Rattle.rb_world.specs.Nested.{IsLevelOf}
 use Rattle.rb_world.proofs.ListFacts.{Each-change_at, Each-map, none_some, some_same}
 use Rattle.rb_world.proofs.LevelFacts.{IsNew, IsOld, IsOldOrNew, get_more, get_take, get_without_last, level_at_place}
-use Rattle.rb_machine.specs.Known.{IsTried}
+use Rattle.rb_recovery.specs.Known.{IsTried}
 
 -- each of these levels tries an alternate that it has
 abbrev pub AreTried : {C : Type 0} → List (Level C) → Type 0

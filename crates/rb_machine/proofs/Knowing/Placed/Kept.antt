@@ -17,7 +17,7 @@ use Rattle.rb_code.specs.WordMachine.WordRun.{WordWorld}
 use Rattle.rb_code.proofs.Executing.InsideOut.{raised_same, used_same}
 use Rattle.rb_code.proofs.Executing.ProcessesStand.{processes_stand}
 use Rattle.rb_code.proofs.WholeRuns.MachineSteps.{LeavesLinks, settle_same, step_leaves}
-use Rattle.rb_machine.specs.Known.{IsPlaced}
+use Rattle.rb_recovery.specs.Known.{IsPlaced}
 use Rattle.rb_machine.proofs.Knowing.Sizes.{turn-each}
 use Rattle.rb_machine.proofs.Knowing.Placed.LikeLevels.{AreLike, AreOpen, like_none, like_open, like_opened, like_self, like_taken, like_without_last}
 use Rattle.rb_machine.proofs.Knowing.Placed.NewLevel.{open_more}

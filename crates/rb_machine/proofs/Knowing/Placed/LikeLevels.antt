@@ -12,7 +12,7 @@ use Rattle.rb_world.proofs.ListFacts.{none_some, some_same}
 use Rattle.rb_code.specs.Instructions.Plain.{Code}
 use Rattle.rb_code.specs.SoundCode.Stands.{Opened, opened}
 use Rattle.rb_code.specs.WordMachine.Turn.{Copy}
-use Rattle.rb_machine.specs.Known.{IsOfBlock, OfMembers}
+use Rattle.rb_recovery.specs.Known.{IsOfBlock, OfMembers}
 
 -- what is known of the levels of process p
 pub record AreOpen (c : Code) (groups : List Membership) (p : ℕ) (levels : List (Level Copy)) : Type 0 where

@@ -17,7 +17,7 @@ use Rattle.rb_code.specs.SoundCode.Stands.{BodyFits, Levels, LevelsFit, Opened, 
 use Rattle.rb_code.specs.WordMachine.Turn.{Copy}
 use Rattle.rb_code.proofs.Executing.LastOf.{last_level, reverse_none}
 use Rattle.rb_code.proofs.Executing.OpenLevels.{body_process}
-use Rattle.rb_machine.specs.Known.{IsOfBlock}
+use Rattle.rb_recovery.specs.Known.{IsOfBlock}
 use Rattle.rb_machine.proofs.Knowing.Placed.Behind.{EntersBlock}
 use Rattle.rb_machine.proofs.Knowing.Placed.LikeLevels.{AreOpen}
 

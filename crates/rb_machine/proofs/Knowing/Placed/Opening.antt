@@ -14,7 +14,7 @@ use Rattle.rb_code.specs.WordMachine.WordKind.{word_kind}
 use Rattle.rb_code.specs.WordMachine.WordRun.{opening_of, opening_standings}
 use Rattle.rb_code.proofs.Executing.RunsStand.{runs_stand}
 use Rattle.rb_code.proofs.WholeRuns.MachineSteps.{settle_same}
-use Rattle.rb_machine.specs.Known.{IsPlaced}
+use Rattle.rb_recovery.specs.Known.{IsPlaced}
 
 -- each state is that of its process
 opening_number : (p r : ℕ) (parts : List Part) (s : Standing) → slice_get (opening_standings p parts) r ≡ Some s → s.process ≡ p + r

@@ -13,7 +13,7 @@ use Rattle.rb_code.proofs.InWords.Channels.{receives, sends}
 use Rattle.rb_code.proofs.Executing.OpenLevels.{body_process}
 use Rattle.rb_code.proofs.Executing.ProcessesStand.{stands_to_step}
 use Rattle.rb_code.proofs.WholeRuns.ProcessesBegin.{all_there}
-use Rattle.rb_machine.specs.Known.{IsPlaced}
+use Rattle.rb_recovery.specs.Known.{IsPlaced}
 use Rattle.rb_machine.proofs.Knowing.Placed.Behind.{EntersBlock, IsBehind, behind, behind_may, IsBusy}
 use Rattle.rb_machine.proofs.Knowing.Placed.NewLevel.{MayOpen, entry_opens}
 

@@ -7,8 +7,8 @@ use Rattle.rb_code.specs.Instructions.Plain.{code as plain}
 use Rattle.rb_code.specs.WordMachine.Turn.{want}
 use Rattle.rb_proc.specs.Entries.{WantsBlock}
 use Rattle.rb_proc.specs.Process.{Seen}
-use Rattle.rb_machine.specs.Moves.{world}
-use Rattle.rb_machine.specs.Worlds.{kind_with, processes_of}
+use Rattle.rb_recovery.specs.Parts.{world}
+use Rattle.rb_recovery.specs.Worlds.{kind_with, processes_of}
 use Rattle.rb_machine.proofs.Turning.Acting.{entry_enters}
 use Rattle.rb_machine.proofs.Turning.Ended.{end_comes, has_ended}
 use Rattle.rb_machine.proofs.Turning.Entering.{wants_block}

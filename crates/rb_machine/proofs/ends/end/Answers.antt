@@ -9,10 +9,10 @@ use Rattle.rb_code.specs.WordMachine.WordKind.{word_kind}
 use Rattle.rb_code.specs.WordMachine.WordRun.{WordWorld}
 use Rattle.rb_conv.specs.Conversations.{memberships}
 use Rattle.rb_proc.specs.Process.{Seen}
-use Rattle.rb_machine.specs.Moves.{passes_of}
+use Rattle.rb_recovery.specs.TestLines.{passes_of}
 use Rattle.rb_machine.specs.Telling.{AreFreed, GoesOnThere, WasAlone, ends_told, running_of}
-use Rattle.rb_machine.specs.Work.{releasing}
-use Rattle.rb_machine.specs.Worlds.{NoneWaits, lines_of, processes_of}
+use Rattle.rb_recovery.specs.Work.{releasing}
+use Rattle.rb_recovery.specs.Worlds.{NoneWaits, lines_of, processes_of}
 use Rattle.rb_machine.proofs.Together.Alone.{no_passes}
 use Rattle.rb_machine.proofs.Releasing.Finished.{all_freed}
 use Rattle.rb_machine.proofs.Releasing.Quiet.{quiet_alone, quiet_goes_on}

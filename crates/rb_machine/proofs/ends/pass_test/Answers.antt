@@ -11,11 +11,11 @@ use Rattle.rb_world.proofs.ListFacts.{some_same}
 use Rattle.rb_conv.specs.Conversations.{memberships}
 use Rattle.rb_proc.specs.Process.{Seen}
 use Rattle.rb_proc.proofs.Leaving.{none_there}
-use Rattle.rb_machine.specs.Channels.{conversation_in}
-use Rattle.rb_machine.specs.Stepping.{HasTaken, HoldsTest, IsListed, MayLeave}
+use Rattle.rb_recovery.specs.Channels.{conversation_in}
+use Rattle.rb_recovery.specs.TestLines.{HasTaken, HoldsTest, IsListed, MayLeave}
 use Rattle.rb_machine.specs.Telling.{IsQuiet}
-use Rattle.rb_machine.specs.Work.{named_accepted}
-use Rattle.rb_machine.specs.Worlds.{NoneWaits, kind_with, memory_of, world_of}
+use Rattle.rb_recovery.specs.Work.{named_accepted}
+use Rattle.rb_recovery.specs.Worlds.{NoneWaits, kind_with, memory_of, world_of}
 use Rattle.rb_machine.proofs.Turning.Ended.{accept_comes, accept_names, has_ended}
 use Rattle.rb_machine.proofs.ends.pass_test.Goals as goal
 

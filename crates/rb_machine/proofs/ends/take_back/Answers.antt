@@ -1,6 +1,6 @@
 -- The rejections lead to where the turn leads.
 use Rattle.std.proofs.Common.{sym, ◌∙◌, arith}
-use Rattle.rb_machine.specs.Worlds.{processes_of}
+use Rattle.rb_recovery.specs.Worlds.{processes_of}
 use Rattle.rb_machine.proofs.Turning.Ended.{end_comes, has_ended, not_quiet}
 use Rattle.rb_machine.proofs.ends.take_back.Goals as goal
 

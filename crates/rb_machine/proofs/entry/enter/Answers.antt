@@ -11,16 +11,16 @@ use Rattle.rb_code.specs.WordMachine.Turn.{want}
 use Rattle.rb_proc.specs.Entries.{WantsBlock, entered_process}
 use Rattle.rb_proc.specs.Process.{Seen, kind_of}
 use Rattle.rb_proc.proofs.Leaving.{none_there}
-use Rattle.rb_machine.specs.Moves.{passes_of}
-use Rattle.rb_machine.specs.Rejections.{changed}
+use Rattle.rb_recovery.specs.TestLines.{passes_of}
+use Rattle.rb_recovery.specs.Rejections.{changed}
 use Rattle.rb_machine.specs.Telling.{takes_nothing_back}
-use Rattle.rb_machine.specs.Worlds.{NoneWaits, memory_of, world_of}
+use Rattle.rb_recovery.specs.Worlds.{NoneWaits, memory_of, world_of}
 use Rattle.rb_machine.proofs.Turning.Acting.{moved_as}
 use Rattle.rb_machine.proofs.Turning.Ended.{not_quiet}
 use Rattle.rb_machine.proofs.Turning.Entered.{entered_goes_on, restarts_at_work}
 use Rattle.rb_machine.proofs.Turning.Entering.{entry_trapped, few_levels, has_failed, has_opened, is_listed, wants_block}
 use Rattle.rb_machine.proofs.Knowing.KnownHere.{are_quiet, may_reject}
-use Rattle.rb_machine.proofs.Rejecting.QuietProcesses.{waits_at}
+use Rattle.rb_recovery.proofs.Rejecting.QuietProcesses.{waits_at}
 use Rattle.rb_machine.proofs.entry.enter.Goals as goal
 
 pub undo-requires-clause-may : goal.undo-requires-clause-may

@@ -4,7 +4,7 @@ use Rattle.rb_base.specs.declared.event.Cause.TheVariants.{Broken}
 use Rattle.rb_world.specs.Reject.{fallen}
 use Rattle.rb_conv.proofs.Places.{set-changes}
 use Rattle.rb_proc.specs.Process.{kind_of}
-use Rattle.rb_machine.specs.Rejections.{changed}
+use Rattle.rb_recovery.specs.Rejections.{changed}
 use Rattle.rb_machine.proofs.entry.fail.Goals as goal
 
 pub returns : goal.returns

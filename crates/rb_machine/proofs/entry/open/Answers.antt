@@ -7,7 +7,7 @@ use Rattle.rb_code.specs.WordMachine.Turn.{want}
 use Rattle.rb_conv.proofs.Places.{set-changes}
 use Rattle.rb_proc.specs.Entries.{entered_process}
 use Rattle.rb_proc.specs.Process.{Seen}
-use Rattle.rb_machine.specs.Rejections.{changed}
+use Rattle.rb_recovery.specs.Rejections.{changed}
 use Rattle.rb_machine.proofs.Turning.Entering.{entered_seen, entry_link}
 use Rattle.rb_machine.proofs.entry.open.Goals as goal
 

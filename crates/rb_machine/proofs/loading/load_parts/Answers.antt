@@ -14,10 +14,10 @@ use Rattle.rb_code.specs.declared.code.ChannelCode.{ChannelCode}
 use Rattle.rb_conv.specs.Conversations.{memberships, opening}
 use Rattle.rb_proc.specs.Process.{Seen}
 use Rattle.rb_machine.specs.Machine.{Seen as Machine}
-use Rattle.rb_machine.specs.Moves.{world}
+use Rattle.rb_recovery.specs.Parts.{world}
 use Rattle.rb_machine.specs.Resting.{AreNoted, AreTallied}
 use Rattle.rb_machine.specs.Telling.{running_of}
-use Rattle.rb_machine.specs.Worlds.{processes_of}
+use Rattle.rb_recovery.specs.Worlds.{processes_of}
 use Rattle.rb_machine.specs.declared.rests.Rest.{Rest}
 use Rattle.rb_machine.specs.declared.rests.Resting.{Resting}
 use Rattle.rb_machine.proofs.Beginning.ExecutableCode.{is_executable}

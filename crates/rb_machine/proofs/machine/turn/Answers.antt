@@ -5,9 +5,9 @@ use Rattle.rb_code.specs.Instructions.Plain.{code as plain}
 use Rattle.rb_code.specs.WordMachine.WordRun.{WordWorld}
 use Rattle.rb_conv.specs.Conversations.{memberships}
 use Rattle.rb_machine.specs.Ends.{IsUnderWay}
-use Rattle.rb_machine.specs.Moves.{world}
-use Rattle.rb_machine.specs.Work.{turn_work}
-use Rattle.rb_machine.specs.Worlds.{lines_of}
+use Rattle.rb_recovery.specs.Parts.{world}
+use Rattle.rb_recovery.specs.Work.{turn_work}
+use Rattle.rb_recovery.specs.Worlds.{lines_of}
 use Rattle.rb_machine.proofs.Working.TurnWork.{entry_adds_nothing, turn_costs}
 use Rattle.rb_machine.proofs.machine.turn.Goals as goal
 

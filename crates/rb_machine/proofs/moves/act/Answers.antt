@@ -4,10 +4,11 @@ use Rattle.rb_world.specs.Turn.{Moved}
 use Rattle.rb_code.specs.Instructions.Plain.{code as plain}
 use Rattle.rb_code.specs.WordMachine.Turn.{Common, Copy, Standing}
 use Rattle.rb_proc.specs.Process.{Seen}
-use Rattle.rb_machine.specs.Channels.{AreNumbered, NoneFell}
-use Rattle.rb_machine.specs.Moves.{IsEntryReady, IsReadyAt, ReceivesThere, WantsThere}
-use Rattle.rb_machine.specs.Work.{is_kept}
-use Rattle.rb_machine.specs.Worlds.{memory_of, processes_of}
+use Rattle.rb_recovery.specs.Channels.{AreNumbered, NoneFell}
+use Rattle.rb_recovery.specs.Innermost.{WantsThere}
+use Rattle.rb_machine.specs.Moves.{IsEntryReady, IsReadyAt, ReceivesThere}
+use Rattle.rb_recovery.specs.Work.{is_kept}
+use Rattle.rb_recovery.specs.Worlds.{memory_of, processes_of}
 use Rattle.rb_machine.proofs.Turning.Ended.{leads_as}
 use Rattle.rb_machine.proofs.Working.MoveWork.{looks_stepping, looks_unkept, pays_entry, pays_step, pays_waiting}
 use Rattle.rb_machine.proofs.Knowing.KnownNumbers.{numbered_at_work}

@@ -3,7 +3,7 @@ use Rattle.std.proofs.Common.{ap, ◌∙◌, set, position}
 use Rattle.rb_world.specs.Turn.{is_over, turn_used}
 use Rattle.rb_conv.proofs.Places.{set-changes}
 use Rattle.rb_proc.specs.Process.{Seen}
-use Rattle.rb_machine.specs.Rejections.{changed}
+use Rattle.rb_recovery.specs.Rejections.{changed}
 use Rattle.rb_machine.proofs.Knowing.CountedTurns.{set_there}
 use Rattle.rb_machine.proofs.moves.count.Goals as goal
 

@@ -8,9 +8,9 @@ use Rattle.rb_code.specs.Instructions.Plain.{code as plain}
 use Rattle.rb_code.specs.WordMachine.Turn.{Common, Copy, Standing}
 use Rattle.rb_conv.specs.Conversations.{memberships}
 use Rattle.rb_proc.specs.Process.{Seen}
-use Rattle.rb_machine.specs.Moves.{world}
-use Rattle.rb_machine.specs.Work.{enters_there, looking}
-use Rattle.rb_machine.specs.Worlds.{kind_with, memory_of, processes_of}
+use Rattle.rb_recovery.specs.Parts.{world}
+use Rattle.rb_recovery.specs.Work.{enters_there, looking}
+use Rattle.rb_recovery.specs.Worlds.{kind_with, memory_of, processes_of}
 use Rattle.rb_machine.proofs.Turning.Ended.{leads_as}
 use Rattle.rb_machine.proofs.Knowing.KnownHere.{are_quiet, may_reject, process_there}
 use Rattle.rb_machine.proofs.Working.MoveWork.{named_away, pays_nothing, pays_same}

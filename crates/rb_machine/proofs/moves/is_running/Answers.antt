@@ -9,7 +9,7 @@ use Rattle.rb_proc.specs.declared.answers.ProcessStatus.{ProcessStatus}
 use Rattle.rb_proc.specs.declared.answers.ProcessStatus.TheVariants as status
 use Rattle.rb_machine.specs.Telling.{is_running}
 use Rattle.rb_machine.specs.Turns.{runs_there}
-use Rattle.rb_machine.specs.Worlds.{processes_of}
+use Rattle.rb_recovery.specs.Worlds.{processes_of}
 use Rattle.rb_machine.proofs.ReadAt.{process_there}
 use Rattle.rb_machine.proofs.moves.is_running.Goals as goal
 

@@ -10,15 +10,15 @@ use Rattle.rb_code.specs.WordMachine.Turn.{Copy, Standing}
 use Rattle.rb_code.specs.WordMachine.WordRun.{WordWorld}
 use Rattle.rb_conv.specs.Conversations.{memberships}
 use Rattle.rb_proc.specs.Process.{Seen}
-use Rattle.rb_machine.specs.Rejections.{changed}
-use Rattle.rb_machine.specs.Moves.{world}
-use Rattle.rb_machine.specs.Work.{enters_there, looking, named_within, undoing}
-use Rattle.rb_machine.specs.Worlds.{NoneWaits, kind_with, processes_of}
+use Rattle.rb_recovery.specs.Rejections.{changed}
+use Rattle.rb_recovery.specs.Parts.{world}
+use Rattle.rb_recovery.specs.Work.{enters_there, looking, named_within, undoing}
+use Rattle.rb_recovery.specs.Worlds.{NoneWaits, kind_with, processes_of}
 use Rattle.rb_machine.proofs.Turning.Ended.{leads_as, leads_from}
 use Rattle.rb_machine.proofs.Knowing.CountedTurns.{counted_there, counted_work, counted_world, few_used}
 use Rattle.rb_machine.proofs.Working.MoveWork.{counted_undoing, pays_same}
-use Rattle.rb_machine.proofs.Rejecting.QuietProcesses.{waits_at}
-use Rattle.rb_machine.proofs.SeenWorlds.{processes_at}
+use Rattle.rb_recovery.proofs.Rejecting.QuietProcesses.{waits_at}
+use Rattle.rb_recovery.proofs.SeenWorlds.{processes_at}
 use Rattle.rb_machine.proofs.moves.run.Goals as goal
 
 pub count-over-requires-clause-few : goal.count-over-requires-clause-few

@@ -2,7 +2,7 @@ use Rattle.std.proofs.Common.{arith}
 use Rattle.std.proofs.lemmas.List.{length-map}
 use Rattle.rb_scope.proofs.Long.{got}
 use Rattle.rb_code.specs.Instructions.Plain.{code as plain, part}
-use Rattle.rb_machine.proofs.Passing.RoomsAndMessages.{is_of_code}
+use Rattle.rb_recovery.proofs.Passing.RoomsAndMessages.{is_of_code}
 use Rattle.rb_machine.proofs.reading.cursor_at.Goals as goal
 
 pub cursor-requires : goal.cursor-requires

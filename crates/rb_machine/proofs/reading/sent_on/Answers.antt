@@ -2,7 +2,7 @@ use Rattle.std.proofs.Common.{pos, option_map, Some, ap, sym, ◌∙◌, rules, 
 use Rattle.std.proofs.lemmas.Int.{to_z-of_z}
 use Rattle.rb_world.proofs.ListFacts.{slice_get-there}
 use Rattle.rb_code.specs.Instructions.Plain.{channel as ends_of, code as plain}
-use Rattle.rb_machine.proofs.Passing.CountsRead.{channel_there, sender_counts, sent_is}
+use Rattle.rb_recovery.proofs.Passing.CountsRead.{channel_there, sender_counts, sent_is}
 use Rattle.rb_machine.proofs.reading.sent_on.Goals as goal
 
 pub cursor_at-requires-clause-end : goal.cursor_at-requires-clause-end

@@ -3,7 +3,7 @@ use Rattle.std.proofs.lemmas.List.{length-map}
 use Rattle.std.proofs.lemmas.Int.{to_z-of_z}
 use Rattle.rb_scope.proofs.Long.{got}
 use Rattle.rb_code.specs.Instructions.Plain.{code as plain, part}
-use Rattle.rb_machine.proofs.Passing.RoomsAndMessages.{is_of_code}
+use Rattle.rb_recovery.proofs.Passing.RoomsAndMessages.{is_of_code}
 use Rattle.rb_machine.proofs.ReadAt.{variables_there, with_variables}
 use Rattle.rb_machine.proofs.reading.word_at.Goals as goal
 

@@ -5,7 +5,7 @@ use Rattle.std.proofs.lemmas.List.{nil_from_length}
 use Rattle.std.proofs.lemmas.Option.{slice_get-get_or, slice_get-map, slice_get_past}
 use Rattle.rb_proc.specs.Process.{Seen}
 use Rattle.rb_machine.specs.Resting.{IsBare}
-use Rattle.rb_machine.specs.Worlds.{processes_of}
+use Rattle.rb_recovery.specs.Worlds.{processes_of}
 use Rattle.rb_machine.proofs.rests.is_bare.Goals as goal
 
 pub returns-then-p-procs : goal.returns-then-p-procs

@@ -2,7 +2,7 @@
 use Rattle.std.proofs.Common.{ℕ, List, [], ◌∷◌, ◌++◌, ap, ◌∙◌}
 use Rattle.rb_code.specs.Instructions.Plain.{code as plain}
 use Rattle.rb_machine.specs.Stepping.{turn_kept}
-use Rattle.rb_machine.specs.declared.links.Link.{Link}
+use Rattle.rb_recovery.specs.declared.links.Link.{Link}
 use Rattle.rb_machine.proofs.Turning.StepLinks.{held_link, went_link}
 use Rattle.rb_machine.proofs.step.step_kept.Goals as goal
 

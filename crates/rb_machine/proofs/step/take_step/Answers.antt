@@ -8,7 +8,7 @@ use Rattle.rb_proc.specs.Given.{alternate_by}
 use Rattle.rb_proc.specs.Process.{Seen}
 use Rattle.rb_world.proofs.ListFacts.{slice_get-there}
 use Rattle.rb_machine.specs.Stepping.{AddsLink}
-use Rattle.rb_machine.proofs.Turning.InnermostLevel.{alternate_known}
+use Rattle.rb_recovery.proofs.Turning.InnermostLevel.{alternate_known}
 use Rattle.rb_machine.proofs.Turning.StepTaken.{AtStep, done_here, may_from, no_link_yet, step_leads, step_waits}
 use Rattle.rb_machine.proofs.Working.StepWork.{counted_here, step_names}
 use Rattle.rb_machine.proofs.step.take_step.Goals as goal

@@ -3,7 +3,7 @@ use Rattle.std.proofs.Common.{List, ◌++◌, ap, sym, ◌∙◌}
 use Rattle.std.proofs.lemmas.Option.{get_or_from_slice_get}
 use Rattle.rb_base.specs.declared.event.Event.{Event}
 use Rattle.rb_world.proofs.ListFacts.{slice_get-there}
-use Rattle.rb_machine.specs.Worlds.{processes_of}
+use Rattle.rb_recovery.specs.Worlds.{processes_of}
 use Rattle.rb_machine.proofs.Releasing.Finished.{noted_same, released_same, told_as, told_none}
 use Rattle.rb_machine.proofs.Releasing.Released.{lines_of_freed, processes_freed}
 use Rattle.rb_machine.proofs.telling.finish.Goals as goal

@@ -1,6 +1,6 @@
 use Rattle.rb_machine.proofs.Releasing.Released.{all_released, lines_of_freed, one_more_freed, others_left, processes_freed}
 use Rattle.rb_machine.proofs.Working.ReleaseWork.{all_releases, one_more_release}
-use Rattle.rb_machine.proofs.Beginning.SomeCode.{some_code}
+use Rattle.rb_recovery.proofs.Beginning.SomeCode.{some_code}
 use Rattle.rb_machine.proofs.telling.release_all.Goals as goal
 
 pub loop-proc-preserved : goal.loop-proc-preserved

@@ -2,7 +2,7 @@
 use Rattle.std.proofs.Common.{ap, ◌∙◌}
 use Rattle.rb_proc.specs.Process.{Seen}
 use Rattle.rb_machine.proofs.Working.ReleaseWork.{one_release}
-use Rattle.rb_machine.proofs.Beginning.SomeCode.{some_code}
+use Rattle.rb_recovery.proofs.Beginning.SomeCode.{some_code}
 use Rattle.rb_machine.proofs.telling.release_one.Goals as goal
 
 pub returns-clause-none_waits : goal.returns-clause-none_waits

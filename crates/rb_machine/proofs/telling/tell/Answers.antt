@@ -1,4 +1,4 @@
-use Rattle.rb_machine.specs.Moves.{passes_of}
+use Rattle.rb_recovery.specs.TestLines.{passes_of}
 use Rattle.rb_machine.proofs.Releasing.EndsTold.{all_told, done_fit, errors_fit, pass_fits}
 use Rattle.rb_machine.proofs.telling.tell.Goals as goal
 

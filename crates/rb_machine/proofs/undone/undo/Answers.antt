@@ -5,10 +5,11 @@ use Rattle.rb_base.specs.declared.event.Event.{Event}
 use Rattle.rb_world.specs.Reject.{reject}
 use Rattle.rb_proc.specs.Process.{Seen}
 use Rattle.rb_proc.proofs.Leaving.{none_there}
-use Rattle.rb_machine.specs.Cascade.{HasHappened, MayRejectAt}
-use Rattle.rb_machine.specs.Moves.{passes_of, world}
-use Rattle.rb_machine.specs.Work.{levels_put_back, touched_in}
-use Rattle.rb_machine.specs.Worlds.{NoneWaits, kind_with, memory_of, processes_of, world_of}
+use Rattle.rb_recovery.specs.Cascade.{HasHappened, MayRejectAt}
+use Rattle.rb_recovery.specs.Parts.{world}
+use Rattle.rb_recovery.specs.TestLines.{passes_of}
+use Rattle.rb_recovery.specs.Work.{levels_put_back, touched_in}
+use Rattle.rb_recovery.specs.Worlds.{NoneWaits, kind_with, memory_of, processes_of, world_of}
 use Rattle.rb_machine.proofs.undone.undo.Goals as goal
 
 pub reject-requires-clause-may : goal.reject-requires-clause-may

@@ -1,6 +1,6 @@
 use Rattle.rb_code.specs.Instructions.Plain.{code}
 use Rattle.rb_conv.specs.Conversations.{memberships, opening}
-use Rattle.rb_machine.specs.Worlds.{counts_of}
+use Rattle.rb_recovery.specs.Worlds.{counts_of}
 use Rattle.rb_picture.specs.Trace.{trace_text}
 use Rattle.rb_show.proofs.Putting.{put_filled}
 use Rattle.rb_show.proofs.put_run.put_page.Goals as goal

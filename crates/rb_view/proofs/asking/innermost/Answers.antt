@@ -1,5 +1,5 @@
 use Rattle.std.proofs.Common.{arith}
-use Rattle.rb_machine.proofs.Turning.InnermostLevel.{innermost_seen}
+use Rattle.rb_recovery.proofs.Turning.InnermostLevel.{innermost_seen}
 use Rattle.rb_view.proofs.Asked.{none_innermost}
 use Rattle.rb_view.proofs.asking.innermost.Goals as goal
 

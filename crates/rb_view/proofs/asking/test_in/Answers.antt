@@ -1,6 +1,6 @@
 use Rattle.std.proofs.Common.{subst, ◌∙◌}
 use Rattle.rb_code.specs.Instructions.Plain.{code as plain}
-use Rattle.rb_machine.specs.Stepping.{IsInnermost}
+use Rattle.rb_recovery.specs.Innermost.{IsInnermost}
 use Rattle.rb_view.proofs.Asked.{no_test, test_is}
 use Rattle.rb_view.proofs.asking.test_in.Goals as goal
 

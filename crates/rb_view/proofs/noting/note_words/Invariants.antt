@@ -1,7 +1,7 @@
 -- The words so far are those of the variables.
 use Rattle.std.proofs.Common.{◌≡◌, length, take}
 use Rattle.rb_base.specs.Lines.{belonging}
-use Rattle.rb_machine.specs.Reading.{variables_of}
+use Rattle.rb_recovery.specs.Reading.{variables_of}
 use Rattle.rb_view.proofs.noting.note_words.Given as goal
 
 abbrev pub invariant-loop-at : goal.invariant-loop-at

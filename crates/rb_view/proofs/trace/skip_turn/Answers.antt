@@ -1,7 +1,7 @@
 -- The machine takes the turn, and how it stands then is kept.
 use Rattle.std.proofs.Common.{ap, sym, subst}
 use Rattle.rb_trace.specs.Report.{told_of}
-use Rattle.rb_machine.specs.Known.{IsSoundFor}
+use Rattle.rb_recovery.specs.Known.{IsSoundFor}
 use Rattle.rb_machine.specs.Machine.{Seen}
 use Rattle.rb_run.proofs.TurnsTaken.{is_after}
 use Rattle.rb_run.proofs.TurnsUnseen.{none_waiting, rest_same}

@@ -7,7 +7,7 @@ use Rattle.rb_trace.specs.Report.{told_of}
 use Rattle.rb_world.specs.Text.{told_text}
 use Rattle.rb_world.proofs.ListFacts.{slice_get-there}
 use Rattle.rb_code.specs.Instructions.Plain.{Code}
-use Rattle.rb_machine.specs.Known.{IsSoundFor}
+use Rattle.rb_recovery.specs.Known.{IsSoundFor}
 use Rattle.rb_machine.specs.Machine.{Seen}
 use Rattle.rb_run.specs.Running.{NamesFit}
 use Rattle.rb_changes.specs.Changes.{changes}

@@ -3,7 +3,7 @@ use Rattle.std.proofs.Common.{◌+◌, [], length, refl, sym, ap, ◌∙◌, sub
 use Rattle.rb_outside.proofs.Puts.{puts_nothing}
 use Rattle.rb_trace.specs.Naming.{naming}
 use Rattle.rb_code.specs.Instructions.Plain.{Code}
-use Rattle.rb_machine.specs.Known.{IsSoundFor}
+use Rattle.rb_recovery.specs.Known.{IsSoundFor}
 use Rattle.rb_machine.specs.Machine.{Seen, turned}
 use Rattle.rb_run.specs.Running.{NamesFit}
 use Rattle.rb_run.proofs.Completes.{remains_less, remains_none, remains_same, remains_stopped}

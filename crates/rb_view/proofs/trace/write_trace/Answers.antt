@@ -4,7 +4,7 @@ use Rattle.rb_outside.proofs.Puts.{puts_both, puts_same, puts_stopped_at}
 use Rattle.rb_trace.specs.Ended.{state_of}
 use Rattle.rb_code.specs.Instructions.Plain.{code as plain}
 use Rattle.rb_code.specs.WordMachine.WordRun.{word_final}
-use Rattle.rb_machine.specs.Known.{IsSoundFor}
+use Rattle.rb_recovery.specs.Known.{IsSoundFor}
 use Rattle.rb_machine.specs.Machine.{Seen}
 use Rattle.rb_run.specs.Running.{NamesFit}
 use Rattle.rb_run.proofs.RunWritten.{end_fits, ending_text, is_end, lines_each, states_each, waits_now}

@@ -3,8 +3,8 @@ use Rattle.std.proofs.Common.{[], length, map, ap, ◌∙◌, arith, refl}
 use Rattle.rb_code.specs.Instructions.Plain.{code as plain, part}
 use Rattle.rb_conv.specs.Conversations.{memberships, opening}
 use Rattle.rb_machine.specs.Machine.{Seen}
-use Rattle.rb_machine.specs.Reading.{variables_of}
-use Rattle.rb_machine.specs.Worlds.{counts_of}
+use Rattle.rb_recovery.specs.Reading.{variables_of}
+use Rattle.rb_recovery.specs.Worlds.{counts_of}
 use Rattle.rb_back.proofs.Sizes.{few_words, held_words}
 use Rattle.rb_back.proofs.session.Session.load.Goals as goal
 

@@ -5,7 +5,7 @@ use Rattle.rb_cell.specs.Store.{Store}
 use Rattle.rb_trace.specs.Report.{told_of}
 use Rattle.rb_world.specs.Turn.{Told}
 use Rattle.rb_code.specs.Instructions.Plain.{Code}
-use Rattle.rb_machine.specs.Reading.{variables_of}
+use Rattle.rb_recovery.specs.Reading.{variables_of}
 use Rattle.rb_back.specs.declared.session.Turn.{Turn}
 use Rattle.rb_back.specs.declared.view.Change.{Change}
 use Rattle.rb_back.specs.Course.{Course}

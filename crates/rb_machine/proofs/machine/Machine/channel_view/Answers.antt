@@ -5,8 +5,8 @@ use Rattle.rb_conv.specs.Conversations.{memberships}
 use Rattle.rb_proc.specs.Process.{Seen as Process}
 use Rattle.rb_machine.specs.Looking.{CopiesBelow, IsViewOn}
 use Rattle.rb_machine.specs.Machine.{Seen}
-use Rattle.rb_machine.specs.Reading.{AreCounted}
-use Rattle.rb_machine.specs.Worlds.{processes_of}
+use Rattle.rb_recovery.specs.Reading.{AreCounted}
+use Rattle.rb_recovery.specs.Worlds.{processes_of}
 use Rattle.rb_machine.proofs.Passing.ChannelsLooked.{copies_at_work}
 use Rattle.rb_machine.proofs.Passing.CountedAtWork.{counted_at_work}
 use Rattle.rb_machine.proofs.machine.Machine.channel_view.Goals as goal

@@ -4,7 +4,7 @@ use Rattle.std.proofs.lemmas.List.{length-replicate}
 use Rattle.std.proofs.lemmas.List.Folds.{sum_by-replicate}
 use Rattle.std.proofs.lemmas.List.{with_items_is}
 use Rattle.rb_code.specs.Instructions.Plain.{code as plain}
-use Rattle.rb_machine.specs.Worlds.{lines_of, processes_of}
+use Rattle.rb_recovery.specs.Worlds.{lines_of, processes_of}
 use Rattle.rb_machine.specs.Machine.{Seen}
 use Rattle.rb_machine.proofs.Releasing.LentAtWork.{tied_same, waits_none}
 use Rattle.rb_machine.proofs.Turning.TurnOfParts.{none_wait}

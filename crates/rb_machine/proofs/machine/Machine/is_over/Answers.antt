@@ -4,7 +4,7 @@ use Rattle.std.proofs.lemmas.Bool.{eqb-true}
 use Rattle.rb_code.specs.Instructions.Plain.{code as plain}
 use Rattle.rb_conv.specs.Conversations.{memberships}
 use Rattle.rb_machine.specs.Machine.{IsOver, Seen}
-use Rattle.rb_machine.specs.Moves.{world}
+use Rattle.rb_recovery.specs.Parts.{world}
 use Rattle.rb_machine.proofs.Unmoved.Tallied.{all_rest}
 use Rattle.rb_machine.proofs.machine.Machine.is_over.Goals as goal
 

@@ -10,10 +10,10 @@ use Rattle.rb_conv.specs.Conversations.{memberships}
 use Rattle.rb_proc.specs.Process.{Seen as Process}
 use Rattle.rb_trace.specs.Report.{told_of}
 use Rattle.rb_machine.specs.Machine.{IsKeptEntry, Seen}
-use Rattle.rb_machine.specs.Moves.{world}
+use Rattle.rb_recovery.specs.Parts.{world}
 use Rattle.rb_machine.specs.Resting.{AreNoted, AreTallied, IsBare, changed_after, is_still, one_more}
-use Rattle.rb_machine.specs.Work.{enters_there, turn_work}
-use Rattle.rb_machine.specs.Worlds.{lines_of, processes_of}
+use Rattle.rb_recovery.specs.Work.{enters_there, turn_work}
+use Rattle.rb_recovery.specs.Worlds.{lines_of, processes_of}
 use Rattle.rb_machine.specs.declared.rests.Rest.{Rest}
 use Rattle.rb_machine.proofs.Turning.TurnOfParts.{none_wait}
 use Rattle.rb_machine.proofs.Knowing.Sizes.{turn-processes}

@@ -4,7 +4,7 @@ use Rattle.rb_base.specs.declared.event.Event.{Event}
 use Rattle.rb_code.specs.Instructions.Plain.{code as plain}
 use Rattle.rb_trace.specs.Report.{told_of}
 use Rattle.rb_machine.specs.Machine.{HasTurned, Seen, seen}
-use Rattle.rb_machine.specs.Worlds.{lines_of}
+use Rattle.rb_recovery.specs.Worlds.{lines_of}
 use Rattle.rb_machine.proofs.Turning.TurnOfParts.{none_wait}
 use Rattle.rb_machine.proofs.Unmoved.RestedTurns.{rested_tied, rested_turn}
 use Rattle.rb_machine.proofs.machine.Machine.turn.Goals as goal

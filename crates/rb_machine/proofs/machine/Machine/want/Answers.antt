@@ -2,7 +2,7 @@
 use Rattle.std.proofs.Common.{List, slice_get, ap, ◌∙◌}
 use Rattle.rb_proc.specs.Process.{Seen as Process, wanted_of}
 use Rattle.rb_machine.specs.Machine.{Seen}
-use Rattle.rb_machine.specs.Worlds.{processes_of}
+use Rattle.rb_recovery.specs.Worlds.{processes_of}
 use Rattle.rb_machine.proofs.ReadAt.{process_listed}
 use Rattle.rb_machine.proofs.machine.Machine.want.Goals as goal
 

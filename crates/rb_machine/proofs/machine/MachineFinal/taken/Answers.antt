@@ -2,7 +2,7 @@
 use Rattle.std.proofs.Common.{◌<◌, ap, length, ◌∙◌, sym, subst}
 use Rattle.rb_code.specs.Instructions.Plain.{code as plain}
 use Rattle.rb_machine.specs.Machine.{Seen}
-use Rattle.rb_machine.specs.Reading.{AreCounted, taken_of}
+use Rattle.rb_recovery.specs.Reading.{AreCounted, taken_of}
 use Rattle.rb_machine.proofs.Passing.CountedAtWork.{counted_at_work}
 use Rattle.rb_machine.proofs.Releasing.LentAtWork.{taken_each}
 use Rattle.rb_machine.proofs.machine.MachineFinal.taken.Goals as goal

@@ -1,7 +1,7 @@
 -- What is asked to read a word of a process.
 use Rattle.std.proofs.Common.{sym, subst}
 use Rattle.rb_code.specs.Instructions.Plain.{code as plain}
-use Rattle.rb_machine.specs.Channels.{AreNumbered}
+use Rattle.rb_recovery.specs.Channels.{AreNumbered}
 use Rattle.rb_machine.proofs.Knowing.KnownNumbers.{numbered_at_work}
 use Rattle.rb_machine.proofs.machine.MachineFinal.word.Goals as goal
 

@@ -2,7 +2,7 @@ use Rattle.std.proofs.Common.{subst}
 use Rattle.rb_code.specs.Instructions.Plain.{code}
 use Rattle.rb_code.specs.SoundCode.WellFormed.{IsSound}
 use Rattle.rb_conv.specs.Conversations.{memberships, opening}
-use Rattle.rb_machine.specs.Worlds.{counts_of}
+use Rattle.rb_recovery.specs.Worlds.{counts_of}
 use Rattle.rb_verify.specs.Found.{IfUnsound}
 use Rattle.rb_stages.proofs.Images.{fit, sound_opened}
 use Rattle.rb_stages.proofs.image.Image.verified.Goals as goal

@@ -1,0 +1,3 @@
+pub mod CountsRead
+pub mod RoomsAndMessages
+pub mod SeenCopies

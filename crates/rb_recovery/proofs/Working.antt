@@ -1,0 +1,3 @@
+-- The ticks of a turn.
+pub mod LineWork
+pub mod UndoingWork
