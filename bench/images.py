@@ -28,6 +28,10 @@ HONEST_SECONDS = 0.3
 HONEST_MEGABYTES = 100
 # The processor seconds that `loop` takes on the machine for which these bounds are given.
 LOOP_SECONDS = 0.3
+# A program of one empty process, and its image: 134 bytes.
+SMALLEST = b"program a; process p { } end."
+ITS_IMAGE = b"RBL2" + b"".join(number.to_bytes(8, "big") + text for number, text in (
+    (1, b""), (1, b"\x28"), (1, b""), *[(0, b"")] * 7, (1, b""), (1, b"p"), *[(0, b"")] * 4))
 
 
 def run(folder, *words):
@@ -135,6 +139,38 @@ def check_forms(folder):
             yield f"{len(other)} bytes: {answer}"
 
 
+def done(turns):
+    """The answer that the smallest program is due after so many turns."""
+    return 0, b"0 done p\nend %d\np done\n" % turns
+
+
+def smallest_cases():
+    """Bytes near the smallest image, the schedule, and the answer that is due."""
+    image = ITS_IMAGE
+    yield from ((image, "", done(0)), (image, "p 2", done(2)), (image, "q 2", (1, b"refused T2 at 1\n")))
+    yield from ((other, "", REFUSED) for other in (b"", image[:-1], SMALLEST))
+    # Another first byte, an edition 3, no instruction 45; one process more than there is, and more names than bytes are left for. Then a
+    # trap after which nothing stands, a start behind the code, a name with no letter at its front. The second edition has this code too.
+    for at, byte, due in ((0, 0x53, REFUSED), (11, 3, REFUSED), (20, 45, REFUSED), (28, 2, REFUSED), (92, 255, REFUSED),
+                          (20, 36, UNSOUND), (36, 1, UNSOUND), (101, 0x31, UNSOUND), (11, 2, done(0))):
+        yield image[:at] + bytes([byte]) + image[at + 1:], "", due
+
+
+def check_smallest(folder):
+    """What is wrong with the image of the smallest program, which stands here byte by byte, and with the answers on bytes near it."""
+    def write(name, data):
+        with open(os.path.join(folder, name), "wb") as out:
+            out.write(data)
+    write("source", SMALLEST)
+    if run(folder, "compile", "source") != (0, ITS_IMAGE):
+        yield "the smallest image: other bytes"
+    for number, (image, schedule, due) in enumerate(smallest_cases()):
+        write("image", image)
+        write("schedule", schedule.encode())
+        if (answer := run(folder, "load", "image", "schedule")) != due:
+            yield f"the {number}th of those near the smallest image: {answer}"
+
+
 def loop():
     return sum(i * i % 7 for i in range(3_000_000))
 
@@ -212,6 +248,7 @@ def check(folder, told):
             yield f"{os.path.relpath(source, ROOT)}: {line}"
     yield from check_table(folder, told)
     yield from check_forms(folder)
+    yield from check_smallest(folder)
     yield from check_lengths(folder)
     yield from check_honest(folder, told)
     yield from check_worst(folder, told)

@@ -34,11 +34,6 @@ pub(crate) fn failing(bad_read: u64, bad_write: u64, room: usize) -> Outside {
     }
 }
 
-/// No call fails, and the sink has this room.
-pub(crate) fn roomy(room: usize) -> Outside {
-    failing(u64::MAX, u64::MAX, room)
-}
-
 /// The name of a file, and its text.
 pub(crate) type File<'a> = (&'a [u8], &'a [u8]);
 

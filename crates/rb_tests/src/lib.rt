@@ -10,8 +10,6 @@ mod environment_tests;
 #[cfg(test)]
 mod fault_tests;
 #[cfg(test)]
-mod image_rows;
-#[cfg(test)]
 mod judge_tests;
 #[cfg(test)]
 mod parse_rows;
@@ -23,5 +21,3 @@ mod record_tests;
 mod rows;
 #[cfg(test)]
 mod trial_tests;
-#[cfg(test)]
-mod value_tests;
