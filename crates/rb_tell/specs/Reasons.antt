@@ -12,11 +12,11 @@ use Rattle.rb_judge.specs.Judged.{IsJudged}
 use Rattle.rb_judge.specs.declared.judging.Judged.{Judged}
 use Rattle.rb_image.specs.Laws.{IsImage}
 use Rattle.rb_stages.specs.declared.image.TheConstants.{MOST_IMAGE}
-use Rattle.rb_stages.specs.Judgement.{no_image_line, source_line, stuck_line, text_line, too_long_line, unsound_line}
 use Rattle.rb_tell.specs.declared.reads.Reads.{Reads}
 use Rattle.rb_tell.specs.declared.reads.Reads.TheVariants as read
-use Rattle.rb_tell.specs.declared.told.Told.{Told}
-use Rattle.rb_tell.specs.declared.told.Told.TheVariants as say
+use Rattle.rb_told.specs.Lines.{told_line}
+use Rattle.rb_told.specs.declared.told.Told.{Told}
+use Rattle.rb_told.specs.declared.told.Told.TheVariants as say
 use Rattle.rb_frame.specs.Frame.{framed_alone}
 use Rattle.rb_why.specs.Phrases.{long_words, sentence}
 use Rattle.rb_why.specs.Source.{IsReason}
@@ -31,15 +31,6 @@ use Rattle.rb_base.specs.Naming.{process_names}
 use Rattle.rb_code.specs.Instructions.Plain.{code as plain_code}
 use Rattle.rb_nest.specs.Groups.{alternates, memberships}
 use Rattle.rb_image.specs.declared.raw.Raw.{Raw}
-
--- the line that says so
-abbrev pub told_line : Told → List ℕ
-told_line (say.Source fault) = source_line fault
-told_line (say.Text fault) = text_line fault
-told_line (say.Stuck turn) = stuck_line turn
-told_line say.NoImage = no_image_line
-told_line say.Unsound = unsound_line
-told_line say.Long = too_long_line
 
 -- which word of a command names its program, and from 1 a text behind it
 abbrev pub word_of : Reads → ℕ → ℕ

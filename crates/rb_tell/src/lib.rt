@@ -6,7 +6,6 @@ pub mod given;
 pub mod noted;
 pub mod program;
 pub mod reads;
-pub mod told;
 pub mod why;
 
 pub use aloud::{Ended, tell_end};

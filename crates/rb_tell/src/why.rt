@@ -12,7 +12,6 @@ ghost use Rattle.rb_why.specs.Phrases.{long_words};
 ghost use Rattle.rb_why.specs.Text.{text_told};
 
 use crate::reads::{Reads, named, word_at};
-use crate::told::{Told, told_by};
 use rb_base::{FaultName, MOST_BYTES, Names, SourceFault, TextFault};
 use rb_image::read_image;
 use rb_judge::{Judged, judge};
@@ -20,6 +19,7 @@ use rb_outside::Shelf;
 use rb_plain::{StuckTurn, stuck_cause};
 use rb_record::Record;
 use rb_stages::read::read_file;
+use rb_told::{Told, told_by};
 use rb_top::Words;
 use rb_why::{file_reason, long_reason, names_process, source_reason, stuck_reason, text_reason};
 use std::alloc::Global;

@@ -1,7 +1,7 @@
 -- What is told of an image says nothing of files.
 use Rattle.std.proofs.Common.{ap, ◌∙◌}
-use Rattle.rb_tell.specs.Reasons.{told_line}
-use Rattle.rb_tell.specs.declared.told.Told.TheVariants as say
+use Rattle.rb_told.specs.Lines.{told_line}
+use Rattle.rb_told.specs.declared.told.Told.TheVariants as say
 use Rattle.rb_tell.proofs.Parts.{some_goes}
 use Rattle.rb_tell.proofs.why.why_refused.Goals as goal
 

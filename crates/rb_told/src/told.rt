@@ -3,7 +3,7 @@
 ghost use Rattle.std.specs.Prelude.{◌≡◌, IfSome, IsTrue};
 ghost use Rattle.rb_base.specs.Words.{fault_word};
 ghost use Rattle.rb_outside.specs.Puts.{Puts};
-ghost use Rattle.rb_tell.specs.Reasons.{told_line};
+ghost use Rattle.rb_told.specs.Lines.{told_line};
 
 use rb_base::numbers::number_value;
 use rb_base::{FaultName, Place, SourceFault, TextFault};
