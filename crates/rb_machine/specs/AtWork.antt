@@ -1,10 +1,8 @@
 -- What holds of the machine's parts between two turns, and in a turn once it was counted.
-use Rattle.std.specs.Prelude.{◌≡◌, ◌<◌, ◌-◌, ◌^◌, ℕ, ℤ, false, List, length, slice_get, Option, Some}
-use Rattle.rb_world.specs.Kind.{Want, NothingLeft, SendsOn, ReceivesOn, MayReceiveOn, Enters, Starts, Acts}
+use Rattle.std.specs.Prelude.{◌≡◌, ◌<◌, ◌-◌, ◌^◌, ℕ, false, List, length, slice_get, Some}
 use Rattle.rb_world.specs.Slots.{Slots}
 use Rattle.rb_world.specs.World.{Running}
 use Rattle.rb_code.specs.Instructions.Plain.{Block, Code}
-use Rattle.rb_code.specs.SoundCode.Safe.{IsThere}
 use Rattle.rb_code.specs.SoundCode.WellFormed.{IsSound}
 use Rattle.rb_conv.specs.Conversations.{Conversation, memberships}
 use Rattle.rb_proc.specs.Executable.{IsExecutable}
@@ -34,13 +32,3 @@ pub record MayActNow (one : Seen) : Type 0 where
 
 abbrev pub MayAct : List Seen → ℕ → Type 0
 MayAct procs p = (one : Seen) → slice_get procs p ≡ Some one → MayActNow one
-
--- what stands first is a step, and where it waits for a message it is given one
-abbrev pub IsStep : Option ℤ → Want → Type 0
-IsStep message NothingLeft = ⊥
-IsStep message (SendsOn channel) = Unit {0}
-IsStep message (ReceivesOn channel) = IsThere message
-IsStep message (MayReceiveOn channel) = Unit {0}
-IsStep message (Enters facts) = ⊥
-IsStep message Starts = Unit {0}
-IsStep message Acts = Unit {0}

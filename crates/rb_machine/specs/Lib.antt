@@ -1,4 +1,3 @@
-pub mod Receipts
 pub mod AtWork
 pub mod Moves
 pub mod Telling

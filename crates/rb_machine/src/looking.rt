@@ -2,18 +2,14 @@
 
 ghost use Rattle.std.specs.Prelude.{◌≡◌, ◌<◌, ◌≤◌, length, slice_get, option_copied, Some};
 ghost use Rattle.rb_base.specs.declared.limits.TheConstants.{MOST_HELD_BYTES};
-ghost use Rattle.rb_world.specs.Slots.{slot_of};
 ghost use Rattle.rb_world.specs.World.{Process, Talk, last_of};
-ghost use Rattle.rb_code.specs.Instructions.Plain.{Code as Plain};
 ghost use Rattle.rb_code.specs.WordMachine.Turn.{Copy, Standing};
 ghost use Rattle.rb_conv.specs.Conversations.{talks};
-ghost use Rattle.rb_proc.specs.Sees.{AreSized};
 ghost use Rattle.rb_proc.specs.Statuses.{status_of};
 ghost use Rattle.rb_proc.specs.Views.{IsEntryOf, IsViewOf};
 ghost use Rattle.rb_recovery.specs.Worlds.{processes_of};
 
 use rb_conv::Table;
-use rb_mail::Mails;
 use rb_proc::{LevelView, Proc, ProcessStatus};
 use std::sync::ledger::Ledger;
 
@@ -66,18 +62,6 @@ pub fn last_held_at<L: Ledger>(procs: &[Proc<L>], p: u32) -> Option<&[u8]>
     ensures { (q : Process Standing Copy) → slice_get (processes_of procs.now) p ≡ Some q → option_copied result ≡ last_of q.state.held }
 {
     procs[p as usize].last_held()
-}
-
-/// The value in the slot of a message, by its number, which counts from 0; and 0 without slots.
-#[inline(always)]
-pub fn message_at(mails: &Mails, channel: u32, number: u64) -> i64
-    ensures { (c : Plain) → AreSized c mails.now → slot_of c.channels mails.now channel number ≡ result }
-{
-    if (channel as usize) < mails.len() {
-        mails.get(channel as usize, number)
-    } else {
-        0
-    }
 }
 
 /// The present alternate of a conversation.

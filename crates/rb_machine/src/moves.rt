@@ -1,37 +1,28 @@
 //! What a process does in its turn: it waits, steps, enters, or is rejected since a level has used up its turns.
 
-ghost use Rattle.std.specs.Prelude.{◌≡◌, ◌+◌, ◌*◌, ◌-◌, ◌<◌, ◌≤◌, ◌^◌, true, [], length, position, slice_get, Some};
-ghost use Rattle.rb_world.specs.Kind.{SendsOn};
-ghost use Rattle.rb_world.specs.Slots.{Slots};
+ghost use Rattle.std.specs.Prelude.{◌≡◌, ◌+◌, ◌*◌, ◌-◌, ◌<◌, ◌≤◌, ◌^◌, true, length, position, slice_get, Some};
 ghost use Rattle.rb_world.specs.Standing.{Each};
 ghost use Rattle.rb_world.specs.Turn.{acts, bounded, is_over, move, runs, turn_used};
 ghost use Rattle.rb_world.specs.World.{Running, change_at};
 ghost use Rattle.rb_code.specs.Instructions.Plain.{code as plain};
-ghost use Rattle.rb_code.specs.SoundCode.Sound.{IsReceiver};
 ghost use Rattle.rb_code.specs.WordMachine.Turn.{want};
 ghost use Rattle.rb_conv.specs.Conversations.{memberships};
 ghost use Rattle.rb_proc.specs.Process.{Seen};
-ghost use Rattle.rb_proc.specs.Sees.{AreSized};
 ghost use Rattle.rb_machine.specs.AtWork.{MayAct};
-ghost use Rattle.rb_recovery.specs.Channels.{AreNumbered, NoneFell};
 ghost use Rattle.rb_machine.specs.Ends.{LeadsTo, StaysOpen, links_yet, named_yet};
 ghost use Rattle.rb_recovery.specs.Links.{HasRoom};
-ghost use Rattle.rb_recovery.specs.Innermost.{WantsThere};
-ghost use Rattle.rb_machine.specs.Moves.{AreAtWork, IsEntryReady, IsReadyAt, MovesAt, ReceivesThere};
+ghost use Rattle.rb_machine.specs.Moves.{AreAtWork, MovesAt};
 ghost use Rattle.rb_recovery.specs.Parts.{world};
-ghost use Rattle.rb_machine.specs.Receipts.{is_receipt_that_waits, receipt};
 ghost use Rattle.rb_recovery.specs.Rejections.{changed};
 ghost use Rattle.rb_machine.specs.Turns.{runs_there};
 ghost use Rattle.rb_recovery.specs.Work.{enters_there, looking, named_by_acts, named_in_turn, named_running, named_within};
 ghost use Rattle.rb_recovery.specs.Worlds.{kind_with, processes_of};
 
-use crate::looking::message_at;
 use crate::step::take_step;
 use rb_base::{Cause, Steps};
 use rb_code::Code;
-use rb_mail::Mails;
-use rb_proc::{Proc, ProcessStatus, Wanted};
-use rb_recovery::channels::{has_room, message_there};
+use rb_proc::{Proc, ProcessStatus};
+use rb_ready::{ReadyFor, ready};
 use rb_recovery::parts::Parts;
 use std::sync::ledger::Ledger;
 
@@ -52,19 +43,6 @@ pub enum Move {
     Enters(u32),
     /// It is to be rejected from the innermost of its first so many levels on.
     Rejects(u32, Cause),
-}
-
-/// What a process is ready for in its turn.
-#[derive(Clone, Copy)]
-pub(crate) enum ReadyFor {
-    /// For nothing: it is done.
-    Idle,
-    /// It waits for room or for a message.
-    Waits,
-    /// For the entry of a recovery block.
-    Enters(u32),
-    /// For a step, with the message that it is given, if it is given one.
-    Steps(Option<i64>),
 }
 
 /// What stands first in process p decides.
@@ -100,102 +78,6 @@ pub fn act<L: Ledger>(
         ReadyFor::Enters(block) => Move::Enters(block),
         ReadyFor::Steps(message) => take_step(code, parts, turn, p, wanted, message, steps),
     }
-}
-
-// What process p is ready for, by what it wants.
-#[inline(always)]
-fn ready<L: Ledger>(
-    code: &Code,
-    procs: &[Proc<L>],
-    mails: &Mails,
-    p: u32,
-    wanted: Wanted,
-    steps: &mut Steps<L>,
-) -> ReadyFor
-    requires numbered { AreNumbered (plain code.now) procs.now }
-    requires risen { NoneFell (plain code.now) procs.now }
-    requires process { p < length procs.now }
-    requires receiver { ReceivesThere (plain code.now) procs.now p }
-    requires wanted { WantsThere (plain code.now) procs.now p wanted }
-    requires sized { AreSized (plain code.now) mails.now }
-    ensures ready { IsReadyAt (plain code.now) procs.now mails.now p result }
-    ensures work { steps.new ≤ steps.old + 3 }
-    ensures entry { IsEntryReady result → steps.new ≤ steps.old }
-{
-    match wanted {
-        Wanted::Idle | Wanted::Line => ReadyFor::Idle,
-        Wanted::Room(channel) => send(code, procs, p, channel, steps),
-        Wanted::Message(channel) | Wanted::Maybe(channel) => {
-            receive(
-                code,
-                procs,
-                mails,
-                p,
-                channel,
-                waits_for_message(wanted),
-                steps,
-            )
-        }
-        Wanted::Entry(block) => ReadyFor::Enters(block),
-        Wanted::Start | Wanted::Step => ReadyFor::Steps(None),
-    }
-}
-
-// Process p, at a send, waits for room.
-#[inline(always)]
-fn send<L: Ledger>(
-    code: &Code,
-    procs: &[Proc<L>],
-    p: u32,
-    channel: u32,
-    steps: &mut Steps<L>,
-) -> ReadyFor
-    requires numbered { AreNumbered (plain code.now) procs.now }
-    requires process { p < length procs.now }
-    requires wants { (one : Seen) → slice_get procs.now p ≡ Some one → want (plain code.now) one.process.state ≡ SendsOn channel }
-    ensures ready { (slots : Slots) → IsReadyAt (plain code.now) procs.now slots p result }
-    ensures work { steps.new ≤ steps.old + 2 }
-{
-    if has_room(code, procs, channel, steps) {
-        ReadyFor::Steps(None)
-    } else {
-        ReadyFor::Waits
-    }
-}
-
-// Process p, at a receipt, is ready where a message is there, which it is given, and without one where it does not wait for one.
-#[inline(always)]
-fn receive<L: Ledger>(
-    code: &Code,
-    procs: &[Proc<L>],
-    mails: &Mails,
-    p: u32,
-    channel: u32,
-    waits: bool,
-    steps: &mut Steps<L>,
-) -> ReadyFor
-    requires numbered { AreNumbered (plain code.now) procs.now }
-    requires risen { NoneFell (plain code.now) procs.now }
-    requires process { p < length procs.now }
-    requires receiver { IsReceiver (slice_get (plain code.now).channels channel) p }
-    requires wants { (one : Seen) → slice_get procs.now p ≡ Some one → want (plain code.now) one.process.state ≡ receipt waits channel }
-    requires sized { AreSized (plain code.now) mails.now }
-    ensures ready { IsReadyAt (plain code.now) procs.now mails.now p result }
-    ensures work { steps.new ≤ steps.old + 3 }
-{
-    match message_there(code, procs, p, channel, steps) {
-        Some(number) => ReadyFor::Steps(Some(message_at(mails, channel, number))),
-        None if waits => ReadyFor::Waits,
-        None => ReadyFor::Steps(None),
-    }
-}
-
-// Whether who wants this waits for a message.
-#[inline(always)]
-fn waits_for_message(wanted: Wanted) -> bool
-    ensures { result ≡ is_receipt_that_waits wanted }
-{
-    matches!(wanted, Wanted::Message(_))
 }
 
 /// Turn number `turn` of process p, up to its end.

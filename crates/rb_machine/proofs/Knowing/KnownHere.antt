@@ -21,7 +21,8 @@ use Rattle.rb_code.proofs.Executing.ProcessesStand.{stands_to_step}
 use Rattle.rb_conv.specs.Conversations.{Conversation, conversation_at, memberships, talks}
 use Rattle.rb_proc.specs.Process.{Seen, alternate_for}
 use Rattle.rb_proc.specs.Runs.{CursorsRise}
-use Rattle.rb_machine.specs.AtWork.{HasFewAlternates, IsStep, MayActNow}
+use Rattle.rb_machine.specs.AtWork.{HasFewAlternates, MayActNow}
+use Rattle.rb_ready.specs.Readiness.{IsStep}
 use Rattle.rb_recovery.specs.Cascade.{AreQuiet, MayRejectAt, TriesWith}
 use Rattle.rb_recovery.specs.Known.{IsKnown, IsTried}
 use Rattle.rb_recovery.specs.Channels.{conversation_in}

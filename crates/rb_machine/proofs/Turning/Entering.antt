@@ -6,7 +6,7 @@ use Rattle.std.proofs.lemmas.Bool.Decides.{nat_tests}
 use Rattle.rb_base.specs.declared.event.Cause.TheVariants.{Broken, Depth}
 use Rattle.rb_base.specs.declared.event.TurnKind.{TurnKind}
 use Rattle.rb_base.specs.declared.event.TurnKind.TheVariants.{Took, Undone}
-use Rattle.rb_world.specs.Kind.{Facts, Kind, Want, NothingLeft, SendsOn, ReceivesOn, MayReceiveOn, Enters, Starts, Acts}
+use Rattle.rb_world.specs.Kind.{Facts, Kind, Want, Enters}
 use Rattle.rb_world.specs.Reject.{fallen, reject}
 use Rattle.rb_world.specs.Slots.{Slots}
 use Rattle.rb_world.specs.Turn.{Moved, enter_either, enters, join, most_levels, open_at, trapped, undone}
@@ -18,7 +18,7 @@ use Rattle.rb_code.specs.WordMachine.Turn.{Common, Copy, Link as Kept, Standing,
 use Rattle.rb_code.specs.WordMachine.WordRun.{WordWorld}
 use Rattle.rb_conv.specs.Conversations.{Conversation, conversation_at, entered, membership, memberships, talks}
 use Rattle.rb_conv.proofs.TalksAfterCalls.{members_stay, talks_are_the_worlds}
-use Rattle.rb_proc.specs.Entries.{EntersAs, WantsBlock, entered_process}
+use Rattle.rb_proc.specs.Entries.{EntersAs, entered_process}
 use Rattle.rb_proc.specs.Process.{Seen, kind_of}
 use Rattle.rb_machine.specs.AtWork.{IsAtWork, MayActNow}
 use Rattle.rb_recovery.specs.Cascade.{SameGroups}
@@ -259,13 +259,3 @@ module _ (c : Code) (t : ℕ) (procs : List Seen) (table : List Conversation) (s
             rejections = refl;
             passes = refl;
           })
-
--- who wants to enter a block
-pub wants_block : (b : ℕ) (w : Want) → WantsBlock b w → (facts : Facts) × (w ≡ Enters facts) × (facts.number ≡ b)
-wants_block b NothingLeft h = absurd h
-wants_block b (SendsOn channel) h = absurd h
-wants_block b (ReceivesOn channel) h = absurd h
-wants_block b (MayReceiveOn channel) h = absurd h
-wants_block b (Enters facts) h = (facts, refl, h)
-wants_block b Starts h = absurd h
-wants_block b Acts h = absurd h

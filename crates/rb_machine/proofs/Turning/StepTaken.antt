@@ -18,7 +18,8 @@ use Rattle.rb_conv.specs.Conversations.{Conversation}
 use Rattle.rb_proc.specs.Process.{Seen, StepsTo, alternate_for, step_of}
 use Rattle.rb_proc.specs.declared.answers.Outcome.{Outcome}
 use Rattle.rb_proc.specs.declared.answers.Outcome.TheVariants as outcome
-use Rattle.rb_machine.specs.AtWork.{IsAtWork, IsStep, MayAct}
+use Rattle.rb_machine.specs.AtWork.{IsAtWork, MayAct}
+use Rattle.rb_ready.specs.Readiness.{IsStep}
 use Rattle.rb_recovery.specs.Cascade.{AreQuiet, MayRejectAt}
 use Rattle.rb_machine.specs.Ends.{LeadsTo, links_yet}
 use Rattle.rb_recovery.specs.Parts.{world}

@@ -1,50 +1,20 @@
 -- The work of a move: what a process that looks at itself pays for, the words that a step names, and what a rejection of counted levels costs.
-use Rattle.std.proofs.Common.{◌≡◌, ◌⊎◌, inl, inr, ℕ, zero, suc, ◌+◌, ◌*◌, ◌≤◌, ℤ, Bool, true, false, cond, ◌&&◌, ◌||◌, List, [], ◌∷◌, map, Option, Some, None, position, slice_get, sum_by, refl, ap, sym, ◌∙◌, subst, true≢false, arith}
+use Rattle.std.proofs.Common.{◌≡◌, ℕ, zero, suc, ◌+◌, ◌*◌, ◌≤◌, ℤ, Bool, false, cond, ◌&&◌, ◌||◌, List, [], ◌∷◌, map, Option, Some, None, position, slice_get, sum_by, refl, ap, sym, ◌∙◌, arith}
 use Rattle.std.specs.List.{list_any}
 use Rattle.std.proofs.lemmas.Bool.{and_right}
 use Rattle.std.proofs.lemmas.List.Sums.{sum_by-cons}
 use Rattle.rb_base.specs.declared.event.Event.{Event}
 use Rattle.rb_base.specs.declared.event.Event.TheVariants.{Reject, RejectAll, Error, Pass, Done}
 use Rattle.rb_base.specs.declared.event.TurnKind.{TurnKind}
-use Rattle.rb_world.specs.Channels.{has_room, message_there}
-use Rattle.rb_world.specs.Kind.{Membership, Want, NothingLeft, SendsOn, ReceivesOn, MayReceiveOn, Enters, Starts, Acts}
-use Rattle.rb_world.specs.Slots.{Slots}
+use Rattle.rb_world.specs.Kind.{Membership}
 use Rattle.rb_world.specs.Turn.{is_over, one_used, turn_used}
 use Rattle.rb_world.specs.World.{Level, Process, Running, change_at, is_of}
 use Rattle.rb_code.specs.Instructions.Plain.{Code}
 use Rattle.rb_code.specs.WordMachine.Turn.{Copy, Standing, want}
-use Rattle.rb_code.specs.WordMachine.WordKind.{word_kind}
 use Rattle.rb_code.specs.WordMachine.WordRun.{WordWorld}
-use Rattle.rb_proc.specs.Process.{Seen, alternate_for, wanted_by}
-use Rattle.rb_proc.specs.declared.answers.Wanted.{Wanted}
-use Rattle.rb_proc.specs.declared.answers.Wanted.TheVariants as wanted
-use Rattle.rb_machine.specs.AtWork.{IsStep}
-use Rattle.rb_machine.specs.Moves.{IsEntryReady, IsReadyAt}
-use Rattle.rb_recovery.specs.Work.{enters_there, inside_one, is_entry, is_kept, levels_put_back, looking, named_by_acts, named_by_receipt, named_by_status, named_by_steps, named_in_turn, named_running, named_there, named_within, places_put_back, put_back_by, touched_by, touched_in, undoing}
-use Rattle.rb_machine.specs.declared.moves.ReadyFor.{ReadyFor}
-use Rattle.rb_machine.specs.declared.moves.ReadyFor.TheVariants as ready
-use Rattle.rb_machine.proofs.Turning.Acting.{is_start, is_step}
-use Rattle.rb_machine.proofs.Turning.Entering.{wants_block}
-
--- who steps enters nothing
-pub step_is_no_entry : (message : Option ℤ) (w : Want) → IsStep message w → is_entry w ≡ false
-step_is_no_entry message NothingLeft h = absurd h
-step_is_no_entry message (SendsOn channel) h = refl
-step_is_no_entry message (ReceivesOn channel) h = refl
-step_is_no_entry message (MayReceiveOn channel) h = refl
-step_is_no_entry message (Enters facts) h = absurd h
-step_is_no_entry message Starts h = refl
-step_is_no_entry message Acts h = refl
-
--- and who enters nothing is ready for no entry
-pub is_no_entry : (c : Code) (procs : List Seen) (slots : Slots) (p : ℕ) (one : ReadyFor) (x : Seen) → IsReadyAt c procs slots p one
-    → slice_get procs p ≡ Some x → is_entry (want c x.process.state) ≡ false → IsEntryReady one → ⊥
-is_no_entry c procs slots p (ready.Enters b) x at there none entry =
-    let found = wants_block b (want c x.process.state) (at x [] [] 0 there) in
-    true≢false (ap is_entry (sym found.1) ∙ none)
-is_no_entry c procs slots p ready.Idle x at there none entry = entry
-is_no_entry c procs slots p ready.Waits x at there none entry = entry
-is_no_entry c procs slots p (ready.Steps message) x at there none entry = entry
+use Rattle.rb_ready.specs.Readiness.{IsStep}
+use Rattle.rb_recovery.specs.Work.{enters_there, inside_one, is_entry, is_kept, levels_put_back, looking, named_by_acts, named_by_status, named_in_turn, named_running, named_there, named_within, places_put_back, put_back_by, touched_by, touched_in, undoing}
+use Rattle.rb_ready.proofs.Naming.{step_is_no_entry}
 
 module _ (c : Code) (q : Process Standing Copy) (kind : TurnKind) where
   -- a turn that is not kept pays four ticks for looking, and so does a step
@@ -61,28 +31,6 @@ module _ (c : Code) (groups : List Membership) (t p : ℕ) (q : Process Standing
       → named_within c groups t p q w (position is_over q.levels) ≡ named_by_acts c groups t p q w (want c q.state)
   named_away over e none away =
       ap (named_within c groups t p q w) (sym e ∙ none) ∙ ap (λ (b : Bool). cond b 0 (named_by_acts c groups t p q w (want c q.state))) away
-
-  -- and where that is a step, they are those of the step
-  abbrev NamesBy : Option ℤ → Want → Type 0
-  NamesBy message x = named_by_acts c groups t p q w x ≡ named_by_steps c groups t p (alternate_for x q.levels) message q w
-
-  pub send_names : (channel : ℕ) → want c q.state ≡ SendsOn channel → has_room (word_kind c groups) w channel ≡ true → NamesBy None (want c q.state)
-  send_names channel wants room =
-      subst (NamesBy None) (sym wants) (ap (λ (b : Bool). cond b (named_by_steps c groups t p 0 None q w) 0) room)
-
-  pub receipt_names : (channel : ℕ) (message : ℤ) → want c q.state ≡ ReceivesOn channel
-      → message_there (word_kind c groups) w channel ≡ Some message → NamesBy (Some message) (want c q.state)
-  receipt_names channel message wants there = subst (NamesBy (Some message)) (sym wants) (ap (named_by_receipt c groups t p q w) there)
-
-  pub look_names : (channel : ℕ) (message : Option ℤ) → want c q.state ≡ MayReceiveOn channel
-      → message_there (word_kind c groups) w channel ≡ message → NamesBy message (want c q.state)
-  look_names channel message wants is =
-      subst (NamesBy message) (sym wants) (ap (λ (given : Option ℤ). named_by_steps c groups t p 0 given q w) is)
-
-  pub step_names : (answer : Wanted) → wanted_by (want c q.state) ≡ answer → (answer ≡ wanted.Start) ⊎ (answer ≡ wanted.Step)
-      → NamesBy None (want c q.state)
-  step_names answer e (inl start) = subst (NamesBy None) (sym (is_start (want c q.state) (e ∙ start))) refl
-  step_names answer e (inr step) = subst (NamesBy None) (sym (is_step (want c q.state) (e ∙ step))) refl
 
 -- ticks of looking and of the words that are named add up
 pub pays_waiting : (old now look names : ℕ) → now ≤ old + 3 → look ≡ 4 → now + 3 * 0 ≤ old + look + 3 * names

@@ -12,11 +12,11 @@ ghost use Rattle.rb_machine.specs.Looking.{IsViewOn};
 use super::Machine;
 use crate::channel_view::{ChannelView, view_at};
 use crate::looking::{
-    alternate_at, entered_at, held_at, is_broken_at, last_held_at, level_at, levels_at, message_at,
-    status_at,
+    alternate_at, entered_at, held_at, is_broken_at, last_held_at, level_at, levels_at, status_at,
 };
 use rb_base::Steps;
 use rb_proc::{LevelView, ProcessStatus};
+use rb_ready::message_at;
 use std::sync::ledger::Ledger;
 
 impl<'a, L: Ledger> Machine<'a, L> {

@@ -9,9 +9,8 @@ use Rattle.rb_proc.specs.Entries.{WantsBlock}
 use Rattle.rb_proc.specs.Process.{Seen}
 use Rattle.rb_recovery.specs.Parts.{world}
 use Rattle.rb_recovery.specs.Worlds.{kind_with, processes_of}
-use Rattle.rb_machine.proofs.Turning.Acting.{entry_enters}
+use Rattle.rb_ready.proofs.Wanting.{entry_enters, wants_block}
 use Rattle.rb_machine.proofs.Turning.Ended.{end_comes, has_ended}
-use Rattle.rb_machine.proofs.Turning.Entering.{wants_block}
 use Rattle.rb_machine.proofs.ends.come_in.Goals as goal
 
 pub enter-came-requires-clause-work : goal.enter-came-requires-clause-work

@@ -18,7 +18,8 @@ use Rattle.rb_recovery.specs.Worlds.{NoneWaits, memory_of, world_of}
 use Rattle.rb_machine.proofs.Turning.Acting.{moved_as}
 use Rattle.rb_machine.proofs.Turning.Ended.{not_quiet}
 use Rattle.rb_machine.proofs.Turning.Entered.{entered_goes_on, restarts_at_work}
-use Rattle.rb_machine.proofs.Turning.Entering.{entry_trapped, few_levels, has_failed, has_opened, is_listed, wants_block}
+use Rattle.rb_machine.proofs.Turning.Entering.{entry_trapped, few_levels, has_failed, has_opened, is_listed}
+use Rattle.rb_ready.proofs.Wanting.{wants_block}
 use Rattle.rb_machine.proofs.Knowing.KnownHere.{are_quiet, may_reject}
 use Rattle.rb_recovery.proofs.Rejecting.QuietProcesses.{waits_at}
 use Rattle.rb_machine.proofs.entry.enter.Goals as goal

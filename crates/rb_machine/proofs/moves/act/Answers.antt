@@ -6,7 +6,7 @@ use Rattle.rb_code.specs.WordMachine.Turn.{Common, Copy, Standing}
 use Rattle.rb_proc.specs.Process.{Seen}
 use Rattle.rb_recovery.specs.Channels.{AreNumbered, NoneFell}
 use Rattle.rb_recovery.specs.Innermost.{WantsThere}
-use Rattle.rb_machine.specs.Moves.{IsEntryReady, IsReadyAt, ReceivesThere}
+use Rattle.rb_ready.specs.Readiness.{IsEntryReady, IsReadyAt, ReceivesThere}
 use Rattle.rb_recovery.specs.Work.{is_kept}
 use Rattle.rb_recovery.specs.Worlds.{memory_of, processes_of}
 use Rattle.rb_machine.proofs.Turning.Ended.{leads_as}

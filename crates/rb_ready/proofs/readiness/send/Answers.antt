@@ -2,8 +2,8 @@
 use Rattle.std.proofs.Common.{sym, ◌∙◌}
 use Rattle.rb_code.specs.Instructions.Plain.{code as plain}
 use Rattle.rb_conv.specs.Conversations.{memberships, talks}
-use Rattle.rb_machine.proofs.Turning.ReadyFor.{send_ready, send_unready}
-use Rattle.rb_machine.proofs.moves.send.Goals as goal
+use Rattle.rb_ready.proofs.Readying.{send_ready, send_unready}
+use Rattle.rb_ready.proofs.readiness.send.Goals as goal
 
 pub returns-then-has_room-clause-ready : goal.returns-then-has_room-clause-ready
 returns-then-has_room-clause-ready g c slots =

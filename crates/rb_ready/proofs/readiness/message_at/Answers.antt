@@ -1,7 +1,7 @@
 use Rattle.std.proofs.Common.{w64, ◌∙◌, sym, arith, rules}
 use Rattle.std.proofs.lemmas.Int.{to_z-of_z}
 use Rattle.rb_proc.proofs.Mailed.{slot_none, slot_there}
-use Rattle.rb_machine.proofs.looking.message_at.Goals as goal
+use Rattle.rb_ready.proofs.readiness.message_at.Goals as goal
 
 pub returns-then-channel-len : goal.returns-then-channel-len
 returns-then-channel-len c code sized =

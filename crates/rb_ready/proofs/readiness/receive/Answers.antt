@@ -3,8 +3,8 @@ use Rattle.std.proofs.Common.{Some, w64, ap, sym, ◌∙◌, rules}
 use Rattle.std.proofs.lemmas.Int.{to_z-of_z}
 use Rattle.rb_code.specs.Instructions.Plain.{code as plain}
 use Rattle.rb_conv.specs.Conversations.{memberships, talks}
-use Rattle.rb_machine.proofs.Turning.ReadyFor.{taking_ready}
-use Rattle.rb_machine.proofs.moves.receive.Goals as goal
+use Rattle.rb_ready.proofs.Readying.{taking_ready}
+use Rattle.rb_ready.proofs.readiness.receive.Goals as goal
 
 pub returns-in-Some-clause-ready : goal.returns-in-Some-clause-ready
 returns-in-Some-clause-ready g c =

@@ -3,12 +3,12 @@ use Rattle.std.proofs.Common.{ap, sym, ◌∙◌}
 use Rattle.rb_world.proofs.ListFacts.{slice_get-there}
 use Rattle.rb_code.specs.Instructions.Plain.{code as plain}
 use Rattle.rb_code.specs.WordMachine.Turn.{want}
-use Rattle.rb_machine.proofs.Turning.Acting.{is_room}
-use Rattle.rb_machine.specs.Receipts.{is_receipt_that_waits}
+use Rattle.rb_ready.proofs.Wanting.{is_room}
+use Rattle.rb_ready.specs.Receipts.{is_receipt_that_waits}
 use Rattle.rb_recovery.specs.Work.{is_entry}
-use Rattle.rb_machine.proofs.Working.MoveWork.{is_no_entry}
-use Rattle.rb_machine.proofs.Turning.ReadyFor.{enters_ready, idles_ready, receipt_here, receipt_is_no_entry, receiver_here, steps_ready}
-use Rattle.rb_machine.proofs.moves.ready.Goals as goal
+use Rattle.rb_ready.proofs.Naming.{is_no_entry}
+use Rattle.rb_ready.proofs.Readying.{enters_ready, idles_ready, receipt_here, receipt_is_no_entry, receiver_here, steps_ready}
+use Rattle.rb_ready.proofs.readiness.ready.Goals as goal
 
 pub send-requires-clause-wants : goal.send-requires-clause-wants
 send-requires-clause-wants g c one there =
