@@ -13,8 +13,8 @@ use Rattle.rb_code.specs.WordMachine.Turn.{Common, Copy, Standing, want}
 use Rattle.rb_conv.specs.Conversations.{Conversation}
 use Rattle.rb_proc.specs.Process.{Seen, StepsTo, alternate_for, kind_of, step_of}
 use Rattle.rb_proc.specs.Runs.{CursorsRise}
-use Rattle.rb_proc.specs.Views.{IsViewOf}
-use Rattle.rb_proc.specs.declared.answers.LevelView.{LevelView}
+use Rattle.rb_recoverable.specs.Views.{IsViewOf}
+use Rattle.rb_recoverable.specs.declared.level_view.LevelView.{LevelView}
 use Rattle.rb_proc.specs.declared.answers.Outcome.{Outcome}
 use Rattle.rb_proc.specs.declared.answers.Outcome.TheVariants as outcome
 use Rattle.rb_machine.specs.Telling.{GoesOn}

@@ -4,6 +4,7 @@
 pub mod bench;
 pub mod calculate;
 pub mod counters;
+pub mod deciding;
 pub mod line;
 pub mod next;
 pub mod operands;

@@ -9,12 +9,12 @@ use Rattle.rb_code.specs.Instructions.Plain.{Block, Code}
 use Rattle.rb_code.specs.WordMachine.Turn.{Copy, Standing, enters, want, wants_at, wants_by, wants_there}
 use Rattle.rb_code.specs.declared.instr.Instr.{Instr}
 use Rattle.rb_code.specs.declared.instr.Instr.TheVariants.{Done, Enter}
-use Rattle.rb_proc.specs.Contents.{Contents, facts_of}
+use Rattle.rb_recoverable.specs.Contents.{Contents, facts_of}
 use Rattle.rb_proc.specs.Entries.{EntersAs, WantsBlock}
 use Rattle.rb_proc.specs.ProcessInside.{seen, standing}
 use Rattle.rb_proc.specs.Statuses.{status_of}
 use Rattle.rb_proc.specs.declared.answers.ProcessStatus.{ProcessStatus}
-use Rattle.rb_proc.specs.declared.recoverable.BlockFacts.{BlockFacts}
+use Rattle.rb_recoverable.specs.declared.recoverable.BlockFacts.{BlockFacts}
 
 pub mapped_there : {A B : Type 0} (f : A → B) (xs : List A) (k : ℕ) (a : A) → k < length xs → a ≡ get_or xs k a → slice_get (map f xs) k ≡ Some (f a)
 mapped_there f [] k a h e = absurd (omega arith)

@@ -1,21 +1,10 @@
 -- Lemmas of a process of the machine.
 pub mod Listed
-pub mod Rising
-pub mod Fronts
-pub mod Levels
-pub mod Timed
-pub mod Tied
-pub mod Returns
 pub mod Alternates
-pub mod Backs
-pub mod TouchedPlaces
 pub mod Mailed
 pub mod Texts
 pub mod FewOperands
 pub mod Running
 pub mod Stepping
-pub mod Leaving
 pub mod Entered
-pub mod Counted
 pub mod Landing
-pub mod Looked

@@ -11,7 +11,7 @@ use Rattle.rb_cache.specs.Copies.{change_last, joined}
 use Rattle.rb_code.specs.Instructions.Plain.{Code}
 use Rattle.rb_code.specs.WordMachine.Workspace.{Counting, cursor_place, part_of, word_at}
 use Rattle.rb_code.specs.WordMachine.Act.{Going, Outcome, Sight, on_top, put}
-use Rattle.rb_proc.specs.Contents.{Contents}
+use Rattle.rb_recoverable.specs.Contents.{Contents}
 use Rattle.rb_proc.specs.Outcomes.{mem}
 use Rattle.rb_proc.specs.Sees.{FitSizes}
 

@@ -18,9 +18,9 @@ use Rattle.rb_code.specs.WordMachine.Turn.{Copy}
 use Rattle.rb_code.specs.declared.instr.Instr.{Instr}
 use Rattle.rb_code.specs.declared.instr.Instr.TheVariants.{JumpZero, Put, Take}
 use Rattle.rb_proc.specs.Acts.{CursorRises, LeavesEnough}
-use Rattle.rb_proc.specs.Contents.{Contents}
+use Rattle.rb_recoverable.specs.Contents.{Contents}
 use Rattle.rb_proc.specs.Outcomes.{mem}
-use Rattle.rb_proc.specs.Runs.{decided}
+use Rattle.rb_operands.specs.Comparing.{decided}
 use Rattle.rb_proc.specs.Work.{named, named_along, named_at, named_from}
 use Rattle.rb_proc.proofs.FewOperands.{LeavesFew, leaves_few}
 

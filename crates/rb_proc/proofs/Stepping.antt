@@ -15,7 +15,7 @@ use Rattle.rb_code.specs.SoundCode.Stands.{Serves, SettlesSoundly, StandsSoundly
 use Rattle.rb_code.specs.SoundCode.Stays.{Stays, entry_calls}
 use Rattle.rb_code.proofs.Executing.SoundSteps.{settling_is_safe, steps_are_safe}
 use Rattle.rb_code.proofs.Executing.Staying.{settling_stays, steps_stay}
-use Rattle.rb_proc.specs.Contents.{Contents}
+use Rattle.rb_recoverable.specs.Contents.{Contents}
 use Rattle.rb_operands.specs.Outcomes.{ended_of, stop_at}
 use Rattle.rb_proc.specs.Outcomes.{mem, whole}
 use Rattle.rb_proc.specs.Runs.{CursorsRise, KeepsEnded}

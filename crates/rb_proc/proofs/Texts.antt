@@ -10,7 +10,7 @@ use Rattle.rb_operands.specs.LineSeen.{LineSeen}
 use Rattle.rb_operands.specs.Pieces.{piece_text}
 use Rattle.rb_operands.specs.declared.bench.Bench.{Bench}
 use Rattle.rb_operands.specs.declared.line.Piece.TheVariants.{Number, Text}
-use Rattle.rb_proc.specs.Contents.{Contents}
+use Rattle.rb_recoverable.specs.Contents.{Contents}
 use Rattle.rb_proc.specs.Outcomes.{mem}
 
 -- a text joins the line

@@ -6,7 +6,7 @@ use Rattle.rb_code.specs.WordMachine.Workspace.{part_of, variables_place}
 use Rattle.rb_code.specs.declared.instr.Instr.{Instr}
 use Rattle.rb_code.specs.declared.instr.Instr.TheVariants.{Done, Jump, Turn}
 use Rattle.rb_operands.specs.Pieces.{AreTexts}
-use Rattle.rb_proc.specs.Places.{most_places}
+use Rattle.rb_recoverable.specs.Places.{most_places}
 
 -- no more instructions than addresses, texts that may stand in a line, and for each process no more channels and words than places; and
 -- each recovery block has no more alternates than 32 bits count

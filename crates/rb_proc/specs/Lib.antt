@@ -1,7 +1,3 @@
--- What is said of a process of the machine.
-pub mod Places
-pub mod Contents
-pub mod Inside
 pub mod Sees
 pub mod Outcomes
 pub mod Executable
@@ -14,5 +10,3 @@ pub mod Process
 pub mod Work
 pub mod Entries
 pub mod ProcessInside
-pub mod Views
-pub mod Marks

@@ -2,7 +2,7 @@
 use Rattle.std.specs.Prelude.{◌≡◌, ℕ, List, map, Option}
 use Rattle.rb_world.specs.Slots.{Slots}
 use Rattle.rb_code.specs.WordMachine.Workspace.{Counting, Workspace}
-use Rattle.rb_proc.specs.Contents.{Contents}
+use Rattle.rb_recoverable.specs.Contents.{Contents}
 use Rattle.rb_operands.specs.Pieces.{piece_text}
 use Rattle.rb_operands.specs.declared.bench.Bench.{Bench}
 use Rattle.rb_operands.specs.declared.next.Next.{Next}

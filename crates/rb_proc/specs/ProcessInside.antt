@@ -1,7 +1,7 @@
 -- What the parts of a process stand for.
 use Rattle.std.specs.Prelude.{ℕ, Bool}
 use Rattle.rb_code.specs.WordMachine.Turn.{Standing}
-use Rattle.rb_proc.specs.Contents.{Contents}
+use Rattle.rb_recoverable.specs.Contents.{Contents}
 use Rattle.rb_proc.specs.Process.{Seen}
 use Rattle.rb_proc.specs.Statuses.{status_of}
 use Rattle.rb_proc.specs.declared.answers.ProcessStatus.{ProcessStatus}

@@ -1,17 +1,13 @@
 -- What all instructions up to an end ask and leave.
-use Rattle.std.specs.Prelude.{◌≡◌, ℕ, ◌+◌, ◌-◌, ◌<◌, ◌^◌, ℤ, Bool, cond, List, ◌∷◌, slice_get, Option, Some}
+use Rattle.std.specs.Prelude.{◌≡◌, ℕ, ◌+◌, ◌-◌, ◌<◌, ◌^◌, ℤ, Bool, cond, List, slice_get}
 use Rattle.rb_meaning.specs.Environment.{natural}
-use Rattle.rb_meaning.specs.Value.{truth}
 use Rattle.rb_world.specs.Slots.{Slots}
 use Rattle.rb_world.specs.World.{ProcessStatus, Finished, Running, status_at}
 use Rattle.rb_code.specs.Instructions.Plain.{Code}
-use Rattle.rb_code.specs.WordMachine.Workspace.{Workspace, cursor_place, part_of, word_at}
-use Rattle.rb_code.specs.WordMachine.Act.{Going, Outcome}
-use Rattle.rb_code.specs.declared.instr.Instr.{Instr}
-use Rattle.rb_code.specs.declared.instr.Instr.TheVariants.{JumpZero}
+use Rattle.rb_code.specs.WordMachine.Workspace.{cursor_place, part_of, word_at}
 use Rattle.rb_code.specs.WordMachine.Turn.{wants_there}
 use Rattle.rb_code.specs.SoundCode.Stands.{IsAmong}
-use Rattle.rb_proc.specs.Contents.{Contents}
+use Rattle.rb_recoverable.specs.Contents.{Contents}
 use Rattle.rb_operands.specs.declared.next.Ended.{Ended}
 use Rattle.rb_operands.specs.declared.next.Ended.TheVariants as ended
 
@@ -19,12 +15,6 @@ use Rattle.rb_operands.specs.declared.next.Ended.TheVariants as ended
 abbrev pub CursorsRise : Code → ℕ → List ℤ → Type 0
 CursorsRise c p words =
     (channel : ℕ) → IsAmong channel (part_of c p).channels → natural (word_at words (cursor_place (part_of c p) channel)) < 2 ^ 32 - 1
-
--- Where a comparison leads of which it is known whether it holds, by the instruction behind it, at the next address: a jump that is taken where it
--- does not hold is taken or passed at once, and before anything else the truth is pushed.
-abbrev pub decided : Option Instr → ℕ → Bool → List ℤ → Workspace → Outcome
-decided (Some (JumpZero to)) next holds operands m = Going (cond holds (next + 1) to) operands m
-decided _ next holds operands m = Going next (truth holds ∷ operands) m
 
 -- levels and released lines stay, and all stays unless the turn is over
 abbrev pub KeepsEnded : Ended → Contents → Contents → Slots → Slots → Type 0

@@ -9,7 +9,7 @@ use Rattle.rb_code.specs.WordMachine.Workspace.{part_of, variables_place}
 use Rattle.rb_code.specs.WordMachine.Act.{Sight as Seen}
 use Rattle.rb_code.specs.WordMachine.Turn.{Copy, prior_words}
 use Rattle.rb_proc.specs.Given.{alternate_by}
-use Rattle.rb_proc.specs.Places.{most_places}
+use Rattle.rb_recoverable.specs.Places.{most_places}
 use Rattle.rb_proc.specs.declared.sight.Sight.{Sight}
 
 abbrev pub see_of : Sight → List (Level Copy) → Seen

@@ -1,8 +1,7 @@
 -- The work of a process in its turn. Work is counted in ticks, one for each word that is read or written.
-use Rattle.std.specs.Prelude.{ℕ, zero, suc, ◌+◌, ℤ, List, [], length, slice_get, sum_by, Option, Some, None}
+use Rattle.std.specs.Prelude.{ℕ, zero, suc, ◌+◌, ℤ, List, [], slice_get, Option, Some, None}
 use Rattle.rb_world.specs.Slots.{Slots}
 use Rattle.rb_world.specs.World.{Level, Process, copy_of, last_of}
-use Rattle.rb_cache.specs.Copies.{Level as Touched}
 use Rattle.rb_code.specs.WordMachine.Act.{Outcome, Going, Stopped, Accepts, Trapped, Unfinished, Sight, move}
 use Rattle.rb_code.specs.WordMachine.Workspace.{Workspace}
 use Rattle.rb_code.specs.Instructions.Plain.{Code}
@@ -60,10 +59,3 @@ named_in_step c q slots message =
 -- the words that are named on the way to the next turn, with these levels open
 abbrev pub named_settling : Code → Standing → List (Level Copy) → ℕ
 named_settling c s levels = named_along c (sight s 0 (copy_of (last_of levels)) None) (most_steps c) s.at [] (memory_of s [])
-
--- how many places are touched in a level, and in several
-abbrev pub touched_count : Touched → ℕ
-touched_count level = length level.touched
-
-abbrev pub places_touched : List Touched → ℕ
-places_touched levels = sum_by touched_count levels

@@ -34,19 +34,6 @@ pub enum Outcome {
     Trap(Cause),
 }
 
-/// An open level as callers see it: of its recovery block the number, the line of its word `ensure`, the conversation if it has one, the
-/// turn bound and how many alternates it has; then the alternate that is tried, counted from 1, and the turns that the level used.
-#[derive(Clone, Copy)]
-pub struct LevelView {
-    pub block: u32,
-    pub line: u32,
-    pub conversation: Option<u32>,
-    pub bound: u32,
-    pub alternates: u32,
-    pub alternate: u32,
-    pub used: u32,
-}
-
 /// Whether a process runs, is done, or has failed.
 #[derive(Clone, Copy)]
 pub enum ProcessStatus {

@@ -13,13 +13,13 @@ ghost use Rattle.rb_proc.specs.Outcomes.{Keeps, mem};
 ghost use Rattle.rb_operands.specs.Pieces.{AreTexts, piece_text};
 ghost use Rattle.rb_proc.specs.Sees.{AreSized};
 
-use crate::recoverable::{Recoverable, natural};
 use rb_base::{Cause, Steps, Text};
 use rb_code::Code;
 use rb_mail::Mails;
 use rb_operands::Next;
 use rb_operands::line::Line;
 use rb_operands::operands::Operands;
+use rb_recoverable::recoverable::{Recoverable, natural};
 use std::sync::ledger::Ledger;
 
 /// The place of a channel's cursor among the words of a process.

@@ -15,7 +15,6 @@ ghost use Rattle.rb_proc.specs.Sees.{AreSized, IsTurnOf, see_of};
 ghost use Rattle.rb_proc.specs.Work.{named};
 
 use crate::kinds::{act_on_channel, act_on_counters, act_on_frames, act_on_line, act_on_numbers};
-use crate::recoverable::Recoverable;
 use crate::sight::Sight;
 use crate::wants::alternate_of;
 use crate::words::{load, load_at, prior, prior_at, store, store_at};
@@ -25,6 +24,7 @@ use rb_mail::Mails;
 use rb_operands::calculate::{bound, compare, jump_zero, operate, push, test};
 use rb_operands::operands::Operands;
 use rb_operands::{Bench, Next};
+use rb_recoverable::recoverable::Recoverable;
 use rb_syntax::Op;
 use std::sync::ledger::Ledger;
 

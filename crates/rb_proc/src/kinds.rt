@@ -17,7 +17,6 @@ ghost use Rattle.rb_proc.specs.Sees.{AreSized, IsTurnOf, see_of};
 ghost use Rattle.rb_proc.specs.Work.{named};
 
 use crate::channels::{print, put_value, take_message};
-use crate::recoverable::Recoverable;
 use crate::sight::Sight;
 use crate::words::{call, drop_words, frame, go_back};
 use rb_base::Steps;
@@ -28,6 +27,7 @@ use rb_operands::counters::Counters;
 use rb_operands::line::Piece;
 use rb_operands::operands::Operands;
 use rb_operands::{Bench, Next};
+use rb_recoverable::recoverable::Recoverable;
 use rb_syntax::Op;
 use std::sync::ledger::Ledger;
 

@@ -1,16 +1,14 @@
 //! All instructions up to an end.
 
-ghost use Rattle.std.specs.Prelude.{◌≡◌, ◌+◌, ◌*◌, ◌<◌, ◌≤◌, ◌^◌, ℤ, List, [], get_or, length, slice_get, Option, Some};
+ghost use Rattle.std.specs.Prelude.{◌≡◌, ◌+◌, ◌*◌, ◌<◌, ◌≤◌, ◌^◌, ℤ, List, [], length, Option, Some};
 ghost use Rattle.rb_code.specs.Instructions.Plain.{Code as Plain, code as plain};
-ghost use Rattle.rb_base.specs.declared.limits.TheConstants.{MOST_OPERANDS};
-ghost use Rattle.rb_code.specs.WordMachine.Workspace.{Workspace};
-ghost use Rattle.rb_code.specs.WordMachine.Act.{Going, execute};
+ghost use Rattle.rb_code.specs.WordMachine.Act.{execute};
 ghost use Rattle.rb_code.specs.SoundCode.Safe.{IsUnchanged, Safe};
 ghost use Rattle.rb_code.specs.SoundCode.Stays.{Stays, entry_calls};
 ghost use Rattle.rb_code.specs.WordMachine.Turn.{most_steps, wants_there};
 ghost use Rattle.rb_world.specs.World.{status_at};
 ghost use Rattle.rb_world.specs.World.{copy_of, last_of};
-ghost use Rattle.rb_proc.specs.Runs.{CursorsRise, KeepsEnded, TellsDone, decided, done_or_running};
+ghost use Rattle.rb_proc.specs.Runs.{CursorsRise, KeepsEnded, TellsDone, done_or_running};
 ghost use Rattle.rb_operands.specs.Outcomes.{ended_of};
 ghost use Rattle.rb_proc.specs.Outcomes.{whole};
 ghost use Rattle.rb_operands.specs.Pieces.{AreTexts};
@@ -18,14 +16,14 @@ ghost use Rattle.rb_proc.specs.Sees.{AreSized, IsTurnOf, see_of};
 ghost use Rattle.rb_proc.specs.Work.{named_along};
 
 use crate::instruction::act;
-use crate::recoverable::Recoverable;
 use crate::sight::Sight;
 use rb_base::Steps;
 use rb_code::{Code, Instr};
 use rb_mail::Mails;
+use rb_operands::deciding::{decide, instr_at};
 use rb_operands::operands::Operands;
 use rb_operands::{Bench, Ended, Next};
-use rb_value::operator::truth;
+use rb_recoverable::recoverable::Recoverable;
 use std::sync::ledger::Ledger;
 
 /// Carries out the instructions from an address on, up to an end. At most three ticks for each word that they name.
@@ -79,33 +77,6 @@ pub fn run<L: Ledger>(
             Next::Stop => return Ended::Stop(at as u32, is_done(instr)),
             Next::Accepts(to) => return Ended::Accepts(to),
             Next::Trap(cause) => return Ended::Trap(cause),
-        }
-    }
-}
-
-// The instruction at an address.
-#[inline(always)]
-fn instr_at(instrs: &[Instr], at: usize) -> &Instr
-    requires { at < length instrs.now }
-    ensures { result.now ≡ get_or instrs.now at result.now }
-{
-    &instrs[at]
-}
-
-// Where a comparison leads that holds or does not. A jump right behind it is decided at once, so that nothing is pushed for it.
-#[inline(always)]
-fn decide(instrs: &[Instr], next: usize, holds: bool, operands: &mut Operands<'_>) -> usize
-    requires there { next < length instrs.now }
-    requires addresses { length instrs.now < 2 ^ 32 }
-    requires room { length operands.old < MOST_OPERANDS }
-    ensures { (m : Workspace) → Going result operands.new m ≡ decided (slice_get instrs.now next) next holds operands.old m }
-{
-    match *instr_at(instrs, next) {
-        Instr::JumpZero(_) if holds => next + 1,
-        Instr::JumpZero(to) => to as usize,
-        _ => {
-            operands.push(truth(holds));
-            next
         }
     }
 }

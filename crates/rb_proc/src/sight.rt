@@ -5,12 +5,12 @@ ghost use Rattle.rb_code.specs.WordMachine.Act.{place};
 ghost use Rattle.rb_code.specs.Instructions.Plain.{code as plain};
 ghost use Rattle.rb_base.specs.Limits.{most_words};
 ghost use Rattle.rb_code.specs.WordMachine.Workspace.{base_of, body_place, part_of, variables_place};
-ghost use Rattle.rb_proc.specs.Places.{most_places};
+ghost use Rattle.rb_recoverable.specs.Places.{most_places};
 ghost use Rattle.rb_proc.specs.Sees.{IsTurnOf, see_of};
 
 use crate::answers::Wanted;
-use crate::recoverable::Recoverable;
 use rb_code::{Code, Spot};
+use rb_recoverable::recoverable::Recoverable;
 use std::sync::ledger::Ledger;
 
 /// What a turn sees: its process, where the variables begin, the message that is there if one is, and what the process wants, by which the

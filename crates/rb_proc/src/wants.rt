@@ -7,7 +7,7 @@ ghost use Rattle.rb_code.specs.Instructions.Plain.{code as plain};
 ghost use Rattle.rb_code.specs.WordMachine.Turn.{enters, wants_by, wants_there};
 ghost use Rattle.rb_code.specs.WordMachine.WordKind.{cursor_in};
 ghost use Rattle.rb_proc.specs.Process.{wanted_by};
-ghost use Rattle.rb_proc.specs.Contents.{facts_of as facts};
+ghost use Rattle.rb_recoverable.specs.Contents.{facts_of as facts};
 ghost use Rattle.rb_proc.specs.Executable.{HasNext, IsExecutable, IsTurnAt, LandsAt, ends};
 ghost use Rattle.rb_proc.specs.Given.{alternate_by};
 ghost use Rattle.rb_proc.specs.Runs.{done_or_running};
@@ -15,9 +15,9 @@ ghost use Rattle.rb_proc.specs.Statuses.{status_of};
 
 use crate::answers::{ProcessStatus, Wanted};
 use crate::channels::cursor_place;
-use crate::recoverable::{BlockFacts, Recoverable, natural};
 use rb_base::Steps;
 use rb_code::{Code, Instr};
+use rb_recoverable::recoverable::{BlockFacts, Recoverable, natural};
 use std::sync::ledger::Ledger;
 
 /// What the process wants that runs and stands at an address, and at no test line.

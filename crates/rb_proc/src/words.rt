@@ -15,12 +15,12 @@ ghost use Rattle.rb_code.specs.SoundCode.Stays.{entry_calls};
 ghost use Rattle.rb_code.specs.WordMachine.Turn.{prior_words};
 ghost use Rattle.rb_operands.specs.Outcomes.{outcome_of};
 ghost use Rattle.rb_proc.specs.Outcomes.{Keeps, mem};
-ghost use Rattle.rb_proc.specs.Places.{most_places};
+ghost use Rattle.rb_recoverable.specs.Places.{most_places};
 
-use crate::recoverable::Recoverable;
 use rb_base::{Cause, MOST_OPEN_CALLS, Steps};
 use rb_operands::Next;
 use rb_operands::operands::Operands;
+use rb_recoverable::recoverable::Recoverable;
 use std::sync::ledger::Ledger;
 
 /// Pushes a word.

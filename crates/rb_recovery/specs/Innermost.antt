@@ -4,8 +4,8 @@ use Rattle.rb_world.specs.World.{Level}
 use Rattle.rb_code.specs.Instructions.Plain.{Code}
 use Rattle.rb_code.specs.WordMachine.Turn.{Copy, want}
 use Rattle.rb_proc.specs.Process.{Seen, wanted_by}
-use Rattle.rb_proc.specs.Views.{IsViewOf}
-use Rattle.rb_proc.specs.declared.answers.LevelView.{LevelView}
+use Rattle.rb_recoverable.specs.Views.{IsViewOf}
+use Rattle.rb_recoverable.specs.declared.level_view.LevelView.{LevelView}
 use Rattle.rb_proc.specs.declared.answers.Wanted.{Wanted}
 
 -- these are the levels' innermost one, if there is one

@@ -10,7 +10,7 @@ use Rattle.rb_world.specs.World.{Process, World}
 use Rattle.rb_code.specs.Instructions.Plain.{Code}
 use Rattle.rb_code.specs.WordMachine.Turn.{Common, Copy, Standing}
 use Rattle.rb_conv.specs.Conversations.{Conversation}
-use Rattle.rb_proc.specs.declared.answers.LevelView.{LevelView}
+use Rattle.rb_recoverable.specs.declared.level_view.LevelView.{LevelView}
 use Rattle.rb_proc.specs.Process.{Seen}
 use Rattle.rb_recovery.specs.Worlds.{kind_with, world_of}
 

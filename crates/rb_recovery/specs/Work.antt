@@ -14,7 +14,8 @@ use Rattle.rb_code.specs.Instructions.Plain.{Code}
 use Rattle.rb_code.specs.WordMachine.Turn.{Common, Copy, Standing, step, want}
 use Rattle.rb_code.specs.WordMachine.WordKind.{kept, word_kind}
 use Rattle.rb_code.specs.WordMachine.WordRun.{WordWorld}
-use Rattle.rb_proc.specs.Work.{named_by_step, named_settling, places_touched}
+use Rattle.rb_proc.specs.Work.{named_by_step, named_settling}
+use Rattle.rb_recoverable.specs.Touched.{places_touched}
 
 -- the words that are named on the way to the next turn of a process whose innermost level goes by acceptance
 abbrev pub named_leaving : Code → Standing → List (Level Copy) → ℕ

@@ -1,10 +1,10 @@
 //! Tests of what a process can recover (rb_proc), with as many levels and words as there can be.
 
 ghost use Rattle.std.specs.Prelude.{◌≡◌, ℕ, ◌+◌, ◌<◌, [], length};
-ghost use Rattle.rb_proc.specs.Places.{most_places};
+ghost use Rattle.rb_recoverable.specs.Places.{most_places};
 
 use rb_base::{Memory, Steps};
-use rb_proc::recoverable::{BlockFacts, MOST_PLACES, Recoverable};
+use rb_recoverable::recoverable::{BlockFacts, MOST_PLACES, Recoverable};
 use std::alloc::Global;
 use std::marker::Brand;
 use std::sync::ledger::{Blank, Ledger};

@@ -6,7 +6,7 @@ use Rattle.rb_code.specs.Instructions.Plain.{Block, Code}
 use Rattle.rb_code.specs.WordMachine.Turn.{Copy, Standing, want}
 use Rattle.rb_code.specs.WordMachine.WordKind.{word_kind}
 use Rattle.rb_proc.specs.Process.{wanted_by, wanted_now, wanted_of}
-use Rattle.rb_proc.specs.declared.answers.LevelView.{LevelView}
+use Rattle.rb_recoverable.specs.declared.level_view.LevelView.{LevelView}
 use Rattle.rb_proc.specs.declared.answers.Wanted.{Wanted}
 use Rattle.rb_proc.specs.declared.answers.Wanted.TheVariants as wanted
 use Rattle.rb_recovery.specs.Channels.{conversation_in}

@@ -11,8 +11,8 @@ use Rattle.rb_code.specs.WordMachine.Turn.{Copy, Standing}
 use Rattle.rb_code.specs.Instructions.Plain.{Part}
 use Rattle.rb_code.specs.WordMachine.WordRun.{variable_words}
 use Rattle.rb_code.specs.WordMachine.Workspace.{part_of}
-use Rattle.rb_proc.specs.Views.{IsEntryOf, IsViewOf}
-use Rattle.rb_proc.specs.declared.answers.LevelView.{LevelView}
+use Rattle.rb_recoverable.specs.Views.{IsEntryOf, IsViewOf}
+use Rattle.rb_recoverable.specs.declared.level_view.LevelView.{LevelView}
 use Rattle.rb_machine.specs.Looking.{IsViewOn}
 use Rattle.rb_recovery.specs.Reading.{variables_of}
 use Rattle.rb_machine.specs.Machine.{Seen}

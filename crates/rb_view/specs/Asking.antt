@@ -1,6 +1,6 @@
 -- What a process asks of its next turn, by what is read of it.
 use Rattle.std.specs.Prelude.{ℕ, Bool, true, false, Option, Some, None}
-use Rattle.rb_proc.specs.declared.answers.LevelView.{LevelView}
+use Rattle.rb_recoverable.specs.declared.level_view.LevelView.{LevelView}
 use Rattle.rb_proc.specs.declared.answers.Wanted.{Wanted}
 use Rattle.rb_proc.specs.declared.answers.Wanted.TheVariants as wanted
 use Rattle.rb_picture.specs.declared.asked.Asked.{Asked}

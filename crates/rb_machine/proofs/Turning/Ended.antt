@@ -12,7 +12,7 @@ use Rattle.rb_code.specs.WordMachine.WordRun.{WordWorld}
 use Rattle.rb_conv.specs.Conversations.{Conversation, memberships}
 use Rattle.rb_proc.specs.Process.{Seen}
 use Rattle.rb_proc.specs.Sees.{AreSized}
-use Rattle.rb_proc.proofs.Leaving.{none_there}
+use Rattle.rb_recoverable.proofs.Leaving.{none_there}
 use Rattle.rb_recovery.specs.Cascade.{SameGroups}
 use Rattle.rb_machine.specs.Ends.{CostsTheSame, Ends, Finishes, HasCome, HasEnded, IsUnderWay, LeadsTo, SomeTurnCame, SomeTurnIsUnderWay, named_by_test, named_yet}
 use Rattle.rb_machine.specs.Moves.{HasMoved, IsLeft}

@@ -6,7 +6,7 @@ ghost use Rattle.rb_world.specs.Slots.{slot_of};
 ghost use Rattle.rb_world.specs.World.{Process, Talk, last_of};
 ghost use Rattle.rb_code.specs.WordMachine.Turn.{Copy, Standing};
 ghost use Rattle.rb_proc.specs.Statuses.{status_of};
-ghost use Rattle.rb_proc.specs.Views.{IsEntryOf, IsViewOf};
+ghost use Rattle.rb_recoverable.specs.Views.{IsEntryOf, IsViewOf};
 ghost use Rattle.rb_machine.specs.Looking.{IsViewOn};
 
 use super::Machine;

@@ -3,7 +3,7 @@
 ghost use Rattle.std.specs.Prelude.{◌≡◌, ◌<◌, ◌≤◌, length, slice_get, option_copied};
 ghost use Rattle.rb_base.specs.declared.limits.TheConstants.{MOST_HELD_BYTES};
 ghost use Rattle.rb_world.specs.World.{last_of};
-ghost use Rattle.rb_proc.specs.Views.{IsEntryOf};
+ghost use Rattle.rb_recoverable.specs.Views.{IsEntryOf};
 
 use super::Proc;
 use std::sync::ledger::Ledger;

@@ -4,14 +4,14 @@ ghost use Rattle.std.specs.Prelude.{◌≡◌, ◌+◌, ◌<◌, ◌≤◌, leng
 ghost use Rattle.rb_code.specs.Instructions.Plain.{code as plain};
 ghost use Rattle.rb_code.specs.WordMachine.WordKind.{cursor_in};
 ghost use Rattle.rb_code.specs.WordMachine.WordRun.{variable_words};
-ghost use Rattle.rb_proc.specs.Views.{CursorThen};
+ghost use Rattle.rb_recoverable.specs.Views.{CursorThen};
 
 use super::Proc;
 use crate::channels::{cursor_place, first_variable};
-use crate::recoverable::natural;
 use crate::wants::cursor_of;
 use rb_base::Steps;
 use rb_code::Code;
+use rb_recoverable::recoverable::natural;
 use std::sync::ledger::Ledger;
 
 impl<L: Ledger> Proc<L> {

@@ -11,9 +11,9 @@ use Rattle.rb_conv.specs.Reject.{has_next, rejected}
 use Rattle.rb_conv.proofs.Places.{set-changes}
 use Rattle.rb_conv.proofs.TalksAfterCalls.{members_stay}
 use Rattle.rb_code.specs.Instructions.Plain.{Code}
-use Rattle.rb_proc.specs.declared.answers.LevelView.{LevelView}
+use Rattle.rb_recoverable.specs.declared.level_view.LevelView.{LevelView}
 use Rattle.rb_proc.specs.Process.{Seen, kind_of}
-use Rattle.rb_proc.specs.Views.{IsViewOf}
+use Rattle.rb_recoverable.specs.Views.{IsViewOf}
 use Rattle.rb_recovery.specs.Cascade.{AreQuiet, MayReject, MayRejectAt, SameGroups}
 use Rattle.rb_recovery.specs.Rejections.{HasRejected, changed, rejection_of, tried_alone, tried_together}
 use Rattle.rb_recovery.specs.Worlds.{NoneWaits, kind_with, world_of}

@@ -13,9 +13,9 @@ use Rattle.rb_conv.specs.Reject.{has_next, rejected}
 use Rattle.rb_conv.proofs.TalksAfterCalls.{talks_are_the_worlds}
 use Rattle.rb_code.specs.Instructions.Plain.{Code}
 use Rattle.rb_code.specs.WordMachine.Turn.{Common, Copy, Standing}
-use Rattle.rb_proc.specs.declared.answers.LevelView.{LevelView}
+use Rattle.rb_recoverable.specs.declared.level_view.LevelView.{LevelView}
 use Rattle.rb_proc.specs.Process.{Seen, kind_of}
-use Rattle.rb_proc.specs.Views.{IsViewOf}
+use Rattle.rb_recoverable.specs.Views.{IsViewOf}
 use Rattle.rb_recovery.specs.Cascade.{MayReject, TriesWith}
 use Rattle.rb_recovery.specs.Rejections.{IsRejection, changed, rejection_of, told_of, tried_alone, tried_together}
 use Rattle.rb_recovery.specs.Worlds.{kind_with, processes_of, world_of}

@@ -8,7 +8,7 @@ use Rattle.rb_world.specs.World.{Level, Process, change_at, is_of}
 use Rattle.rb_world.proofs.ListFacts.{slice_get-there}
 use Rattle.rb_world.proofs.Members.CascadeSteps.{put_back_outer}
 use Rattle.rb_code.specs.WordMachine.Turn.{Common, Copy, Standing}
-use Rattle.rb_proc.specs.Contents.{IsBelowLast}
+use Rattle.rb_recoverable.specs.Contents.{IsBelowLast}
 use Rattle.rb_proc.specs.Process.{Seen}
 use Rattle.rb_recovery.specs.Cascade.{AreQuiet}
 use Rattle.rb_recovery.specs.Rejections.{changed}

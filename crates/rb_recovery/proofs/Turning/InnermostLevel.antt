@@ -8,8 +8,8 @@ use Rattle.rb_code.specs.WordMachine.Turn.{Copy, want}
 use Rattle.rb_proc.proofs.Stepping.{alternate_is}
 use Rattle.rb_proc.specs.Given.{alternate_by}
 use Rattle.rb_proc.specs.Process.{Seen, alternate_for}
-use Rattle.rb_proc.specs.Views.{IsViewOf}
-use Rattle.rb_proc.specs.declared.answers.LevelView.{LevelView}
+use Rattle.rb_recoverable.specs.Views.{IsViewOf}
+use Rattle.rb_recoverable.specs.declared.level_view.LevelView.{LevelView}
 use Rattle.rb_proc.specs.declared.answers.Wanted.{Wanted}
 use Rattle.rb_recovery.specs.Innermost.{WantsThere}
 use Rattle.rb_recovery.specs.Innermost.{IsInnermost, tried_by}

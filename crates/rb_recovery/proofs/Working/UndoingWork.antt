@@ -14,7 +14,7 @@ use Rattle.rb_world.specs.Reject.{at_place, back_to, fallen, fallen_inside, next
 use Rattle.rb_world.specs.World.{Level, Process, change_at, is_inside, is_of}
 use Rattle.rb_code.specs.Instructions.Plain.{Code}
 use Rattle.rb_code.specs.WordMachine.Turn.{Common, Copy, Standing}
-use Rattle.rb_proc.specs.declared.answers.LevelView.{LevelView}
+use Rattle.rb_recoverable.specs.declared.level_view.LevelView.{LevelView}
 use Rattle.rb_proc.specs.Process.{Seen, kind_of}
 use Rattle.rb_recovery.specs.Rejections.{changed, rejection_of, told_of, tried_alone, tried_together}
 use Rattle.rb_recovery.specs.Work.{Undoes, inside, inside_one, levels_put_back, put_back_by, touched_by, touched_in}

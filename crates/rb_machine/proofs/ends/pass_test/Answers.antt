@@ -10,7 +10,7 @@ use Rattle.rb_world.specs.World.{last_of}
 use Rattle.rb_world.proofs.ListFacts.{some_same}
 use Rattle.rb_conv.specs.Conversations.{memberships}
 use Rattle.rb_proc.specs.Process.{Seen}
-use Rattle.rb_proc.proofs.Leaving.{none_there}
+use Rattle.rb_recoverable.proofs.Leaving.{none_there}
 use Rattle.rb_recovery.specs.Channels.{conversation_in}
 use Rattle.rb_recovery.specs.TestLines.{HasTaken, HoldsTest, IsListed, MayLeave}
 use Rattle.rb_machine.specs.Telling.{IsQuiet}

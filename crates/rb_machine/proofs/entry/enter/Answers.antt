@@ -10,7 +10,7 @@ use Rattle.rb_code.specs.Instructions.Plain.{code as plain}
 use Rattle.rb_code.specs.WordMachine.Turn.{want}
 use Rattle.rb_proc.specs.Entries.{WantsBlock, entered_process}
 use Rattle.rb_proc.specs.Process.{Seen, kind_of}
-use Rattle.rb_proc.proofs.Leaving.{none_there}
+use Rattle.rb_recoverable.proofs.Leaving.{none_there}
 use Rattle.rb_recovery.specs.TestLines.{passes_of}
 use Rattle.rb_recovery.specs.Rejections.{changed}
 use Rattle.rb_machine.specs.Telling.{takes_nothing_back}

@@ -3,7 +3,7 @@ use Rattle.rb_world.specs.World.{Process}
 use Rattle.rb_world.proofs.ListFacts.{some_same}
 use Rattle.rb_code.specs.WordMachine.Turn.{Copy, Standing}
 use Rattle.rb_scope.proofs.Long.{got}
-use Rattle.rb_proc.specs.Views.{IsEntryOf}
+use Rattle.rb_recoverable.specs.Views.{IsEntryOf}
 use Rattle.rb_machine.proofs.ReadAt.{process_there}
 use Rattle.rb_machine.proofs.looking.entered_at.Goals as goal
 

@@ -4,7 +4,7 @@ use Rattle.std.proofs.lemmas.List.{with_items_is}
 use Rattle.rb_base.specs.declared.event.Event.{Event}
 use Rattle.rb_world.specs.Reject.{reject}
 use Rattle.rb_proc.specs.Process.{Seen}
-use Rattle.rb_proc.proofs.Leaving.{none_there}
+use Rattle.rb_recoverable.proofs.Leaving.{none_there}
 use Rattle.rb_recovery.specs.Cascade.{HasHappened, MayRejectAt}
 use Rattle.rb_recovery.specs.Parts.{world}
 use Rattle.rb_recovery.specs.TestLines.{passes_of}

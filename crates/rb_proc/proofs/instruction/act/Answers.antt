@@ -11,7 +11,7 @@ use Rattle.rb_code.specs.SoundCode.Safe.{HasTop, IsThere, Ready}
 use Rattle.rb_code.specs.declared.instr.Instr.{Instr}
 use Rattle.rb_operands.specs.declared.next.Next.{Next}
 use Rattle.rb_operands.specs.declared.next.Next.TheVariants as next
-use Rattle.rb_proc.specs.Contents.{Contents}
+use Rattle.rb_recoverable.specs.Contents.{Contents}
 use Rattle.rb_proc.specs.Outcomes.{Keeps, pieces_in, whole}
 use Rattle.rb_proc.specs.Sees.{see_of}
 use Rattle.rb_proc.specs.Work.{named}

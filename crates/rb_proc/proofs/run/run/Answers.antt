@@ -9,9 +9,9 @@ use Rattle.rb_code.specs.SoundCode.Safe.{IsUnchanged, Ready}
 use Rattle.rb_code.specs.SoundCode.Stays.{entry_calls}
 use Rattle.rb_code.specs.WordMachine.Turn.{Copy, most_steps, wants_there}
 use Rattle.rb_proc.specs.Acts.{CursorRises, LeavesEnough}
-use Rattle.rb_proc.specs.Contents.{Contents}
+use Rattle.rb_recoverable.specs.Contents.{Contents}
 use Rattle.rb_proc.specs.Outcomes.{pieces_in, whole}
-use Rattle.rb_proc.specs.Runs.{decided}
+use Rattle.rb_operands.specs.Comparing.{decided}
 use Rattle.rb_proc.specs.Sees.{FitSizes, see_of}
 use Rattle.rb_proc.proofs.Running.{decides, falls, fetched, in_code, is_behind, is_room, leaves, names_here, onward, over, ready_here, rises, same_contents, unchanged}
 use Rattle.rb_proc.proofs.run.run.Goals as goal

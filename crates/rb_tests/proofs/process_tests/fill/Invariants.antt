@@ -1,5 +1,5 @@
 use Rattle.std.proofs.Common.{◌≡◌, [], length}
-use Rattle.rb_proc.specs.Places.{most_places}
+use Rattle.rb_recoverable.specs.Places.{most_places}
 use Rattle.rb_tests.proofs.process_tests.fill.Given as goal
 
 abbrev pub invariant-loop-level : goal.invariant-loop-level

@@ -7,8 +7,8 @@ use Rattle.rb_code.specs.Instructions.Plain.{code as plain}
 use Rattle.rb_code.specs.WordMachine.Workspace.{word_at}
 use Rattle.rb_code.specs.WordMachine.Turn.{prior_words}
 use Rattle.rb_proc.specs.Process.{Seen}
-use Rattle.rb_proc.specs.Views.{CursorThen}
-use Rattle.rb_proc.proofs.Looked.{cursor_there}
+use Rattle.rb_recoverable.specs.Views.{CursorThen}
+use Rattle.rb_recoverable.proofs.Looked.{cursor_there}
 use Rattle.rb_proc.proofs.process.Proc.cursor_then.Goals as goal
 
 pub returns-clause-cursor : goal.returns-clause-cursor

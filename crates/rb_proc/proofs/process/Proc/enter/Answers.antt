@@ -6,7 +6,7 @@ use Rattle.rb_code.specs.Instructions.Plain.{code as plain}
 use Rattle.rb_code.specs.WordMachine.Turn.{want, wants_there}
 use Rattle.rb_code.specs.declared.instr.Instr.{Instr}
 use Rattle.rb_code.specs.declared.instr.Instr.TheVariants.{Turn}
-use Rattle.rb_proc.specs.Contents.{Contents}
+use Rattle.rb_recoverable.specs.Contents.{Contents}
 use Rattle.rb_proc.specs.Entries.{EntersAs, WantsBlock}
 use Rattle.rb_proc.specs.Executable.{RestartsAt}
 use Rattle.rb_proc.specs.Process.{Seen}

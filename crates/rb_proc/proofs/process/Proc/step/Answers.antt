@@ -4,7 +4,7 @@ use Rattle.rb_world.specs.World.{Level, ProcessStatus as Stands}
 use Rattle.rb_code.specs.Instructions.Plain.{code as plain}
 use Rattle.rb_code.specs.SoundCode.Stands.{Serves, StandsSoundly}
 use Rattle.rb_code.specs.WordMachine.Turn.{Copy, want}
-use Rattle.rb_proc.specs.Contents.{Contents}
+use Rattle.rb_recoverable.specs.Contents.{Contents}
 use Rattle.rb_proc.specs.Given.{alternate_by}
 use Rattle.rb_proc.specs.Outcomes.{whole}
 use Rattle.rb_proc.specs.Runs.{CursorsRise}

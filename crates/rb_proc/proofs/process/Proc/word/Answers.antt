@@ -5,7 +5,7 @@ use Rattle.rb_code.specs.Instructions.Plain.{code as plain}
 use Rattle.rb_code.specs.WordMachine.Workspace.{part_of, variables_place, word_at}
 use Rattle.rb_code.specs.WordMachine.WordRun.{variable_words}
 use Rattle.rb_proc.specs.Process.{Seen}
-use Rattle.rb_proc.proofs.Looked.{word_there}
+use Rattle.rb_recoverable.proofs.Looked.{word_there}
 use Rattle.rb_proc.proofs.process.Proc.word.Goals as goal
 
 pub returns-clause-word : goal.returns-clause-word

@@ -1,9 +1,0 @@
-use Rattle.std.proofs.Common.{ap, ◌∙◌}
-use Rattle.rb_world.specs.World.{last_of}
-use Rattle.rb_proc.specs.Contents.{Contents}
-use Rattle.rb_proc.proofs.Looked.{last_there}
-use Rattle.rb_proc.proofs.recoverable.Recoverable.last_held.Goals as goal
-
-pub returns : goal.returns
-returns g c =
-    c.last_held.ensures ∙ last_there c.self.inside.hold.held ∙ ap (λ (r : Contents). last_of r.held) c.self.view_is

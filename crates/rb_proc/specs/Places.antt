@@ -1,6 +1,0 @@
--- The most places of a process's words.
-use Rattle.std.specs.Prelude.{ℕ}
-use Rattle.rb_proc.specs.declared.recoverable.TheConstants.{MOST_PLACES}
-
-abbrev pub most_places : ℕ
-most_places = MOST_PLACES

@@ -1,0 +1,11 @@
+pub mod Rising
+pub mod Fronts
+pub mod Levels
+pub mod Timed
+pub mod Tied
+pub mod Returns
+pub mod Backs
+pub mod TouchedPlaces
+pub mod Leaving
+pub mod Counted
+pub mod Looked
