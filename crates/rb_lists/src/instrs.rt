@@ -1,6 +1,6 @@
 //! The numbers that instructions name.
 
-ghost use Rattle.std.specs.Prelude.{◌≡◌, ◌↔◌, ◌<◌, IsTrue, length, map};
+ghost use Rattle.std.specs.Prelude.{◌≡◌, ◌↔◌, IsTrue};
 ghost use Rattle.std.specs.List.{All};
 ghost use Rattle.rb_code.specs.Instructions.Plain.{code as plain};
 ghost use Rattle.rb_code.specs.SoundCode.WellFormed.{Names as NamesThere};
@@ -19,34 +19,28 @@ impl Allows<Instr> for Code {
     ghost Law = { λ code instr. NamesThere (plain code) instr };
 
     fn allows(&self, instr: &Instr) -> bool {
+        let instrs = self.instrs.len();
+        let channels = self.channels.len();
         match *instr {
             Instr::Jump(address) | Instr::JumpZero(address) | Instr::Call(address, _, _) => {
-                is_one(address, self.instrs.len())
+                (address as usize) < instrs
             }
-            Instr::Text(text) => is_one(text, self.texts.len()),
+            Instr::Text(text) => (text as usize) < self.texts.len(),
             Instr::Room(channel)
             | Instr::Put(channel)
             | Instr::There(channel)
-            | Instr::Take(channel) => is_one(channel, self.channels.len()),
+            | Instr::Take(channel) => (channel as usize) < channels,
             Instr::Absent(channel, address) => {
-                is_one(channel, self.channels.len()) && is_one(address, self.instrs.len())
+                (channel as usize) < channels && (address as usize) < instrs
             }
-            Instr::Enter(block) | Instr::Start(block) | Instr::Test(block) => is_one(
-                block,
-                self.blocks.len(),
-            ),
+            Instr::Enter(block) | Instr::Start(block) | Instr::Test(block) => {
+                (block as usize) < self.blocks.len()
+            }
             Instr::Range(counter, address) | Instr::Again(counter, address) => {
-                counter < 2 && is_one(address, self.instrs.len())
+                counter < 2 && (address as usize) < instrs
             }
             Instr::Counter(counter) => counter < 2,
             _ => true,
         }
     }
-}
-
-// Whether a number is that of one of so many.
-fn is_one(number: u32, count: usize) -> bool
-    ensures { IsTrue result ↔ (number < count) }
-{
-    (number as usize) < count
 }

@@ -1,7 +1,8 @@
-use Rattle.std.proofs.Common.{◌≡◌, ◌↔◌, IsTrue, List, ℕ, Some, map, slice_get, refl, ap, subst, ◌∙◌}
+use Rattle.std.proofs.Common.{◌≡◌, ◌↔◌, IsTrue, List, ℕ, Some, map, slice_get, refl, sym, ap, subst, ◌∙◌}
 use Rattle.std.specs.List.{All}
 use Rattle.std.proofs.lemmas.Option.{slice_get-map, slice_get_read}
 use Rattle.std.specs.Option.{option_map}
+use Rattle.rb_world.proofs.ListFacts.{none_some}
 use Rattle.rb_nest.specs.Groups.{membership}
 use Rattle.rb_code.specs.SoundCode.Sound.{IsMember}
 use Rattle.rb_lists.proofs.Differing.{tells_parent}
@@ -21,3 +22,6 @@ returns-in-Some-get c =
     c.in-Some.is
     (slice_get-map membership groups c.in-Some.parent ∙ ap (option_map membership) there)
     (tells_same (λ (m : ℕ). IsMember m around.members.items) _ _ _ c.deref-in-Some-get.ensures.value members)
+
+pub returns-in-None : goal.returns-in-None
+returns-in-None c = ((λ _. record { parent = λ d at. absurd (none_some (sym c.in-None.is ∙ at)) }), (λ _. refl))
