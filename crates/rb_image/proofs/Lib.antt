@@ -10,3 +10,4 @@ pub mod Parts
 pub mod Whole
 pub mod Found
 pub mod Items
+pub mod Spellings

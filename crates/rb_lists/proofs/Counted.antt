@@ -1,8 +1,7 @@
 -- How often a block is marked.
-use Rattle.std.proofs.Common.{◌≡◌, ◌↔◌, ◌<◌, ◌≤◌, ◌+◌, ◌&&◌, ℕ, zero, suc, Bool, true, false, cond, IsTrue, List, [], ◌∷◌, length, get_or, take, refl, sym, ap, subst, ◌∙◌, arith}
-use Rattle.std.specs.List.{count_by, list_all}
-use Rattle.std.proofs.lemmas.Bool.{and_parts}
-use Rattle.std.proofs.lemmas.List.{take_all}
+use Rattle.std.proofs.Common.{◌≡◌, ◌↔◌, ◌<◌, ◌≤◌, ◌+◌, ℕ, Bool, true, false, cond, IsTrue, List, length, get_or, take, refl, sym, ap, subst, ◌∙◌, arith}
+use Rattle.std.specs.List.{All, count_by}
+use Rattle.std.proofs.lemmas.List.{get_or_default, take_all}
 use Rattle.std.proofs.lemmas.List.Sums.{sum_by_more_le}
 use mathlib.Core.Path.{fun_ext}
 use Rattle.rb_code.specs.Instructions.Plain.{Code}
@@ -25,32 +24,22 @@ twice p instrs i d within one more all =
     let few : count_by p (take i instrs) + added (p (get_or instrs i d)) ≤ count_by p instrs = sum_by_more_le (λ x. cond (p x) 1 0) instrs i d within in
     omega arith
 
--- each was seen
-seen_at : (seen : List Bool) → list_all (λ one. one) seen ≡ true → (b : ℕ) → b < length seen → get_or seen b false ≡ true
-seen_at [] e b within = absurd (omega arith)
-seen_at (one ∷ seen) e zero within = (and_parts one (list_all (λ x. x) seen) e).0
-seen_at (one ∷ seen) e (suc b) within = seen_at seen (and_parts one (list_all (λ x. x) seen) e).1 b (omega arith)
-
-all_seen : (seen : List Bool) → ((b : ℕ) → b < length seen → get_or seen b false ≡ true) → list_all (λ one. one) seen ≡ true
-all_seen [] each = refl
-all_seen (one ∷ seen) each =
-    ap (λ here. here && list_all (λ x. x) seen) (each 0 (omega arith)) ∙ all_seen seen (λ b within. each (suc b) (omega arith))
-
 was_seen : (one : Bool) → added one ≡ 1 → one ≡ true
 was_seen true e = refl
 was_seen false e = absurd (omega arith)
 
 pub tells_seen : (p : ℕ → Instr → Bool) (instrs : List Instr) (i n : ℕ) (seen : List Bool) (told : Bool) → length seen ≡ n → length instrs ≤ i
     → ((b : ℕ) → b < length seen → count_by (p b) (take i instrs) ≡ added (get_or seen b false))
-    → told ≡ list_all (λ one. one) seen
+    → (IsTrue told ↔ All (λ (one : Bool). IsTrue one) seen)
     → IsTrue told ↔ ((b : ℕ) → b < n → count_by (p b) instrs ≡ 1)
-tells_seen p instrs i n seen told size whole counts e =
+tells_seen p instrs i n seen told size whole counts tells =
     let at : (b : ℕ) → b < length seen → count_by (p b) instrs ≡ added (get_or seen b false) =
     λ b within. ap (count_by (p b)) (sym (take_all i instrs whole)) ∙ counts b within in (
       (λ t b within.
           let inside : b < length seen = omega arith in
-          at b inside ∙ ap added (seen_at seen (sym e ∙ t) b inside)),
-      (λ each. e ∙ all_seen seen (λ b within. was_seen (get_or seen b false) (sym (at b within) ∙ each b (omega arith)))),
+          at b inside ∙ ap added (tells.0 t b false inside)),
+      (λ each. tells.1 (λ b d within.
+          was_seen (get_or seen b d) (ap added (get_or_default seen b d false within) ∙ sym (at b within) ∙ each b (omega arith)))),
     )
 
 -- each of so many blocks is marked once

@@ -1,6 +1,6 @@
 -- Names and numbers that differ, by tests.
 use Rattle.std.proofs.Common.{◌≡◌, ◌↔◌, ◌<◌, ◌+◌, ◌⊎◌, ℕ, zero, suc, nat_eq, Bool, true, false, not, ◌&&◌, ◌||◌, IsTrue, List, [], ◌∷◌, Bor, Some, length, map, get_or, take, slice_get, refl, sym, ap, subst, ◌∙◌, inl, inr, arith}
-use Rattle.std.specs.List.{All, AllByRecursion, IsDistinct, list_all, list_any}
+use Rattle.std.specs.List.{All, AllByRecursion, IsDistinct, list_any}
 use Rattle.std.proofs.lemmas.Bool.{and_parts, eqb-true, eq-eqb, false≢true, or_parts, true≢false, not-true}
 use Rattle.std.proofs.lemmas.List.Elements.{All-from_recursion, All-more, recursion_from_All}
 use Rattle.rb_world.specs.Kind.{Membership}
@@ -48,7 +48,7 @@ tells_names told names outer same e =
     ((λ t. subst (IsDistinct same_name) same (differ_by names (sym e ∙ t))), (λ d. e ∙ by_differ names (subst (IsDistinct same_name) (sym same) d)))
 
 -- the test of a member
-any_member : (p : ℕ) (members : List ℕ) → list_any (λ m. nat_eq m p) members ≡ true → IsMember p members
+pub any_member : (p : ℕ) (members : List ℕ) → list_any (λ m. nat_eq m p) members ≡ true → IsMember p members
 any_member p [] e = absurd (false≢true e)
 any_member p (m ∷ members) e = by (nat_eq m p) refl (any_member p members) e
   where
@@ -57,7 +57,7 @@ any_member p (m ∷ members) e = by (nat_eq m p) refl (any_member p members) e
     by true same next e = inl (eqb-true m p same)
     by false same next e = inr (next e)
 
-member_any : (p : ℕ) (members : List ℕ) → IsMember p members → list_any (λ m. nat_eq m p) members ≡ true
+pub member_any : (p : ℕ) (members : List ℕ) → IsMember p members → list_any (λ m. nat_eq m p) members ≡ true
 member_any p [] member = absurd member
 member_any p (m ∷ members) (inl same) = ap (λ here. here || list_any (λ m. nat_eq m p) members) (eq-eqb m p same)
 member_any p (m ∷ members) (inr later) = by (nat_eq m p) (member_any p members later)
@@ -66,37 +66,22 @@ member_any p (m ∷ members) (inr later) = by (nat_eq m p) (member_any p members
     by true e = refl
     by false e = e
 
-all_members : (around members : List ℕ) → list_all (λ m. list_any (λ other. nat_eq other m) around) members ≡ true
-    → AllByRecursion (λ m. IsMember m around) members
-all_members around [] e = tt
-all_members around (m ∷ members) e =
-    let parts = and_parts (list_any (λ (other : ℕ). nat_eq other m) around) (list_all (λ (n : ℕ). list_any (λ (other : ℕ). nat_eq other n) around) members) e in
-    (any_member m around parts.0, all_members around members parts.1)
-
-members_all : (around members : List ℕ) → AllByRecursion (λ m. IsMember m around) members
-    → list_all (λ m. list_any (λ other. nat_eq other m) around) members ≡ true
-members_all around [] all = refl
-members_all around (m ∷ members) all =
-    ap (λ here. here && list_all (λ n. list_any (λ other. nat_eq other n) around) members) (member_any m around all.0)
-    ∙ members_all around members all.1
-
 -- the test of a conversation whose parent is there
 pub tells_parent : (groups : List Membership) (group around : Membership) (d : ℕ) (told : Bool) → group.parent ≡ Some d
-    → slice_get groups d ≡ Some around → told ≡ list_all (λ m. list_any (λ other. nat_eq other m) around.members) group.members
+    → slice_get groups d ≡ Some around → (IsTrue told ↔ All (λ m. IsMember m around.members) group.members)
     → IsTrue told ↔ HasParent groups group
-tells_parent groups group around d told is there e = (
+tells_parent groups group around d told is there tells = (
   (λ t. record {
     parent = λ n at. (
       around,
       subst (λ k. slice_get groups k ≡ Some around) (some_same (sym is ∙ at)) there,
-      All-from_recursion (λ m. IsMember m around.members) group.members (all_members around.members group.members (sym e ∙ t)),
+      tells.0 t,
     );
   }),
   (λ has.
       let of = has.parent d is in
-      e ∙ members_all around.members group.members
-      (recursion_from_All (λ m. IsMember m around.members) group.members
-      (subst (λ (one : Membership). All (λ m. IsMember m one.members) group.members) (some_same (sym of.1 ∙ there)) of.2))),
+      tells.1
+      (subst (λ (one : Membership). All (λ m. IsMember m one.members) group.members) (some_same (sym of.1 ∙ there)) of.2)),
 )
 
 -- a number that stood before

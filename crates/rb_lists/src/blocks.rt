@@ -6,6 +6,7 @@ ghost use Rattle.rb_nest.specs.Groups.{membership};
 ghost use Rattle.rb_code.specs.Instructions.Plain.{block as plain_block, code as plain};
 ghost use Rattle.rb_code.specs.SoundCode.WellFormed.{IsBlock, IsWithin};
 
+use crate::rule::{Allows, Below, all_allowed};
 use rb_base::{Group, MOST_TURNS};
 use rb_code::{BlockCode, Code};
 
@@ -13,25 +14,27 @@ use rb_code::{BlockCode, Code};
 pub(crate) fn are_blocks(code: &Code, groups: &[Group]) -> bool
     ensures { IsTrue result ↔ All (λ block. IsBlock (plain code.now) (map membership groups.now) (plain_block block)) code.now.blocks.items }
 {
-    let mut rest = code.blocks.as_slice();
-    'entries: while let [block, after @ ..] = rest {
-        if !is_block(code, groups, block) {
-            return false;
-        }
-        rest = after;
-    }
-    true
+    all_allowed(&Blocks { code, groups }, &code.blocks)
 }
 
-fn is_block(code: &Code, groups: &[Group], block: &BlockCode) -> bool
-    ensures { IsTrue result ↔ IsBlock (plain code.now) (map membership groups.now) (plain_block block.now) }
-{
-    let instrs = code.instrs.len();
-    is_bound(block.bound)
-        && is_conversation(groups.len(), block.conversation)
-        && stand_there(instrs, block)
-        && !block.alternates.is_empty()
-        && are_there(instrs, &block.alternates)
+// What blocks name.
+#[derive(Clone, Copy)]
+struct Blocks<'c> {
+    code: &'c Code,
+    groups: &'c [Group],
+}
+
+impl<'c> Allows<BlockCode> for Blocks<'c> {
+    ghost Law = { λ blocks block. IsBlock (plain blocks.code.now) (map membership blocks.groups.now) (plain_block block) };
+
+    fn allows(&self, block: &BlockCode) -> bool {
+        let instrs = self.code.instrs.len();
+        is_bound(block.bound)
+            && is_conversation(self.groups.len(), block.conversation)
+            && stand_there(instrs, block)
+            && !block.alternates.is_empty()
+            && all_allowed(&Below(instrs), &block.alternates)
+    }
 }
 
 fn is_bound(bound: u32) -> bool
@@ -53,17 +56,4 @@ fn stand_there(instrs: usize, block: &BlockCode) -> bool
     ensures { IsTrue result ↔ ((block.now.restart < instrs) × (block.now.test < instrs)) }
 {
     (block.restart as usize) < instrs && (block.test as usize) < instrs
-}
-
-fn are_there(instrs: usize, addresses: &[u32]) -> bool
-    ensures { IsTrue result ↔ All (λ address. address < instrs) addresses.now }
-{
-    let mut rest = addresses;
-    'addresses: while let [address, after @ ..] = rest {
-        if *address as usize >= instrs {
-            return false;
-        }
-        rest = after;
-    }
-    true
 }

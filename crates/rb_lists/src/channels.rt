@@ -6,6 +6,7 @@ ghost use Rattle.rb_code.specs.Agreement.StandsFor.{channels_from};
 ghost use Rattle.rb_code.specs.Instructions.Plain.{channel as plain_channel, code as plain};
 ghost use Rattle.rb_code.specs.SoundCode.WellFormed.{JoinsTwo, ListsChannels};
 
+use crate::rule::{Allows, all_allowed};
 use rb_base::MOST_CHANNEL_SIZE;
 use rb_code::{ChannelCode, Code};
 
@@ -13,25 +14,20 @@ use rb_code::{ChannelCode, Code};
 pub(crate) fn all_join_two(code: &Code) -> bool
     ensures { IsTrue result ↔ All (λ channel. JoinsTwo (plain code.now) (plain_channel channel)) code.now.channels.items }
 {
-    let mut rest = code.channels.as_slice();
-    'channels: while let [channel, after @ ..] = rest {
-        if !joins_two(code, channel) {
-            return false;
-        }
-        rest = after;
-    }
-    true
+    all_allowed(code, &code.channels)
 }
 
-fn joins_two(code: &Code, channel: &ChannelCode) -> bool
-    ensures { IsTrue result ↔ JoinsTwo (plain code.now) (plain_channel channel.now) }
-{
-    let processes = code.processes.len();
-    (channel.sender as usize) < processes
-        && (channel.receiver as usize) < processes
-        && channel.sender != channel.receiver
-        && 1 <= channel.size
-        && channel.size <= MOST_CHANNEL_SIZE
+impl Allows<ChannelCode> for Code {
+    ghost Law = { λ code channel. JoinsTwo (plain code) (plain_channel channel) };
+
+    fn allows(&self, channel: &ChannelCode) -> bool {
+        let processes = self.processes.len();
+        (channel.sender as usize) < processes
+            && (channel.receiver as usize) < processes
+            && channel.sender != channel.receiver
+            && 1 <= channel.size
+            && channel.size <= MOST_CHANNEL_SIZE
+    }
 }
 
 /// Whether each process lists the channels of which it is an end, in order.

@@ -1,33 +1,27 @@
 //! Conversations: their members, their parents, and how deep they lie.
 
 ghost use Rattle.std.specs.Prelude.{◌≡◌, ◌↔◌, ◌-◌, ◌<◌, ℕ, IsTrue, Some, length, map, nat_eq, slice_get};
-ghost use Rattle.std.specs.List.{All, IsDistinct, list_all, list_any};
+ghost use Rattle.std.specs.List.{All, IsDistinct, list_any};
 ghost use Rattle.rb_base.specs.declared.limits.TheConstants.{MOST_NESTED};
 ghost use Rattle.rb_world.specs.Reject.{parent_of};
 ghost use Rattle.rb_nest.specs.Groups.{membership};
+ghost use Rattle.rb_code.specs.SoundCode.Sound.{IsMember};
 ghost use Rattle.rb_code.specs.SoundCode.WellFormed.{IsChain};
 ghost use Rattle.rb_lists.specs.Groups.{HasMembers, HasParent};
 
+use crate::rule::{Allows, all_allowed};
 use rb_base::{Group, MOST_NESTED};
 
-/// Whether each conversation has two or more members, all different, of so many processes.
-pub(crate) fn have_members(processes: usize, groups: &[Group]) -> bool
-    ensures { IsTrue result ↔ All (λ group. HasMembers processes (membership group)) groups.now }
-{
-    let mut rest = groups;
-    'groups: while let [group, after @ ..] = rest {
-        if !has_members(processes, group) {
-            return false;
-        }
-        rest = after;
-    }
-    true
-}
+/// So many processes, of which each conversation has two or more, all different.
+#[derive(Clone, Copy)]
+pub(crate) struct Processes(pub(crate) usize);
 
-fn has_members(processes: usize, group: &Group) -> bool
-    ensures { IsTrue result ↔ HasMembers processes (membership group.now) }
-{
-    group.members.len() >= 2 && are_different(processes, &group.members)
+impl Allows<Group> for Processes {
+    ghost Law = { λ processes group. HasMembers processes.0 (membership group) };
+
+    fn allows(&self, group: &Group) -> bool {
+        group.members.len() >= 2 && are_different(self.0, &group.members)
+    }
 }
 
 // Each of these is compared with those before it. The first number that is no process or stood before ends it, so it makes few comparisons
@@ -43,43 +37,34 @@ fn are_different(processes: usize, members: &[u32]) -> bool
     true
 }
 
-/// Whether each conversation's parent is there, and has all of its members.
-pub(crate) fn have_parents(groups: &[Group]) -> bool
-    ensures { IsTrue result ↔ All (λ group. HasParent (map membership groups.now) (membership group)) groups.now }
-{
-    let mut rest = groups;
-    'groups: while let [group, after @ ..] = rest {
-        if !has_parent(groups, group) {
-            return false;
-        }
-        rest = after;
-    }
-    true
-}
+/// All conversations, of which the parent of each is one, and has all of its members.
+#[derive(Clone, Copy)]
+pub(crate) struct Parents<'g>(pub(crate) &'g [Group]);
 
-fn has_parent(groups: &[Group], group: &Group) -> bool
-    ensures { IsTrue result ↔ HasParent (map membership groups.now) (membership group.now) }
-{
-    match group.parent {
-        None => true,
-        Some(parent) => match groups.get(parent as usize) {
-            None => false,
-            Some(around) => are_members(&group.members, &around.members),
-        },
+impl<'g> Allows<Group> for Parents<'g> {
+    ghost Law = { λ parents group. HasParent (map membership parents.0.now) (membership group) };
+
+    fn allows(&self, group: &Group) -> bool {
+        match group.parent {
+            None => true,
+            Some(parent) => match self.0.get(parent as usize) {
+                None => false,
+                Some(around) => all_allowed(&Members(&around.members), &group.members),
+            },
+        }
     }
 }
 
-fn are_members(members: &[u32], around: &[u32]) -> bool
-    ensures { result ≡ list_all (λ member. list_any (λ other. nat_eq other member) around.now) members.now }
-{
-    let mut rest = members;
-    'members: while let [member, after @ ..] = rest {
-        if !is_member(*member, around) {
-            return false;
-        }
-        rest = after;
+// The members of a conversation.
+#[derive(Clone, Copy)]
+struct Members<'m>(&'m [u32]);
+
+impl<'m> Allows<u32> for Members<'m> {
+    ghost Law = { λ members member. IsMember member members.0.now };
+
+    fn allows(&self, member: &u32) -> bool {
+        is_member(*member, self.0)
     }
-    true
 }
 
 fn is_member(member: u32, members: &[u32]) -> bool
@@ -88,18 +73,16 @@ fn is_member(member: u32, members: &[u32]) -> bool
     members.contains(&member)
 }
 
-/// Whether each conversation lies in few enough others.
-pub(crate) fn are_chains(groups: &[Group]) -> bool
-    ensures { IsTrue result ↔ All (λ group. IsChain (map membership groups.now) (MOST_NESTED - 1) group.parent) groups.now }
-{
-    let mut rest = groups;
-    'groups: while let [group, after @ ..] = rest {
-        if !ends_within(groups, MOST_NESTED - 1, group.parent) {
-            return false;
-        }
-        rest = after;
+/// All conversations, of which each lies in few enough others.
+#[derive(Clone, Copy)]
+pub(crate) struct Chains<'g>(pub(crate) &'g [Group]);
+
+impl<'g> Allows<Group> for Chains<'g> {
+    ghost Law = { λ chains group. IsChain (map membership chains.0.now) (MOST_NESTED - 1) group.parent };
+
+    fn allows(&self, group: &Group) -> bool {
+        ends_within(self.0, MOST_NESTED - 1, group.parent)
     }
-    true
 }
 
 // Whether a chain of conversations, each the parent of the one before, has at most so many.

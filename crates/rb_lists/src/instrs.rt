@@ -1,54 +1,46 @@
 //! The numbers that instructions name.
 
-ghost use Rattle.std.specs.Prelude.{◌≡◌, ◌↔◌, ◌<◌, IsTrue, length, map};
+ghost use Rattle.std.specs.Prelude.{◌≡◌, ◌↔◌, IsTrue};
 ghost use Rattle.std.specs.List.{All};
 ghost use Rattle.rb_code.specs.Instructions.Plain.{code as plain};
 ghost use Rattle.rb_code.specs.SoundCode.WellFormed.{Names as NamesThere};
 
+use crate::rule::{Allows, all_allowed};
 use rb_code::{Code, Instr};
 
 /// Whether the numbers of each instruction name what is there.
 pub(crate) fn all_name_entries(code: &Code) -> bool
     ensures { IsTrue result ↔ All (NamesThere (plain code.now)) code.now.instrs.items }
 {
-    let mut rest = code.instrs.as_slice();
-    'instrs: while let [instr, after @ ..] = rest {
-        if !names_entries(code, *instr) {
-            return false;
-        }
-        rest = after;
-    }
-    true
+    all_allowed(code, &code.instrs)
 }
 
-fn names_entries(code: &Code, instr: Instr) -> bool
-    ensures { IsTrue result ↔ NamesThere (plain code.now) instr }
-{
-    match instr {
-        Instr::Jump(address) | Instr::JumpZero(address) | Instr::Call(address, _, _) => {
-            is_one(address, code.instrs.len())
-        }
-        Instr::Text(text) => is_one(text, code.texts.len()),
-        Instr::Room(channel) | Instr::Put(channel) | Instr::There(channel) | Instr::Take(channel) =>
-            is_one(channel, code.channels.len()),
-        Instr::Absent(channel, address) => {
-            is_one(channel, code.channels.len()) && is_one(address, code.instrs.len())
-        }
-        Instr::Enter(block) | Instr::Start(block) | Instr::Test(block) => is_one(
-            block,
-            code.blocks.len(),
-        ),
-        Instr::Range(counter, address) | Instr::Again(counter, address) => {
-            counter < 2 && is_one(address, code.instrs.len())
-        }
-        Instr::Counter(counter) => counter < 2,
-        _ => true,
-    }
-}
+impl Allows<Instr> for Code {
+    ghost Law = { λ code instr. NamesThere (plain code) instr };
 
-// Whether a number is that of one of so many.
-fn is_one(number: u32, count: usize) -> bool
-    ensures { IsTrue result ↔ (number < count) }
-{
-    (number as usize) < count
+    fn allows(&self, instr: &Instr) -> bool {
+        let instrs = self.instrs.len();
+        let channels = self.channels.len();
+        match *instr {
+            Instr::Jump(address) | Instr::JumpZero(address) | Instr::Call(address, _, _) => {
+                (address as usize) < instrs
+            }
+            Instr::Text(text) => (text as usize) < self.texts.len(),
+            Instr::Room(channel)
+            | Instr::Put(channel)
+            | Instr::There(channel)
+            | Instr::Take(channel) => (channel as usize) < channels,
+            Instr::Absent(channel, address) => {
+                (channel as usize) < channels && (address as usize) < instrs
+            }
+            Instr::Enter(block) | Instr::Start(block) | Instr::Test(block) => {
+                (block as usize) < self.blocks.len()
+            }
+            Instr::Range(counter, address) | Instr::Again(counter, address) => {
+                counter < 2 && (address as usize) < instrs
+            }
+            Instr::Counter(counter) => counter < 2,
+            _ => true,
+        }
+    }
 }

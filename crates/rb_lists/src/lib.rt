@@ -11,6 +11,7 @@ pub mod lists;
 mod names;
 mod once;
 mod parts;
+mod rule;
 mod texts;
 
 pub use lists::{Refusal, check_lists};

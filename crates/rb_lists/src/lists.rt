@@ -8,11 +8,12 @@ use crate::blocks::are_blocks;
 use crate::channels::{all_join_two, are_listed};
 use crate::distinct::names_differ;
 use crate::few::{are_few, have_names};
-use crate::groups::{are_chains, have_members, have_parents};
+use crate::groups::{Chains, Parents, Processes};
 use crate::instrs::all_name_entries;
-use crate::names::{are_namings, name_procedures, name_processes};
+use crate::names::are_namings;
 use crate::once::has_one_each;
 use crate::parts::{are_parts, variables_lie};
+use crate::rule::all_allowed;
 use crate::texts::are_quotable;
 use rb_base::{Edition, Group, Memory, Names, Nested};
 use rb_code::Code;
@@ -67,14 +68,14 @@ fn are_spelled(code: &Code) -> bool
     ensures { IsTrue result ↔ AreSpelled code.now }
 {
     names_spelled(code.edition, &code.names)
-        && name_procedures(code.edition, &code.processes)
+        && all_allowed(&code.edition, &code.processes)
         && are_quotable(&code.texts)
 }
 
 fn names_spelled(edition: Edition, names: &Names) -> bool
     ensures { IsTrue result ↔ NamesSpelled edition names.now }
 {
-    name_processes(edition, &names.processes)
+    all_allowed(&edition, &names.processes)
         && are_namings(edition, &names.channels)
         && are_namings(edition, &names.conversations)
 }
@@ -94,5 +95,7 @@ fn stand_there(code: &Code, nested: &Nested) -> bool
 fn are_nested(processes: usize, groups: &[Group]) -> bool
     ensures { IsTrue result ↔ AreNested processes groups.now }
 {
-    have_members(processes, groups) && have_parents(groups) && are_chains(groups)
+    all_allowed(&Processes(processes), groups)
+        && all_allowed(&Parents(groups), groups)
+        && all_allowed(&Chains(groups), groups)
 }

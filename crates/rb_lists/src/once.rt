@@ -1,11 +1,12 @@
 //! Each recovery block has one entry, one start and one test, over all instructions.
 
 ghost use Rattle.std.specs.Prelude.{◌≡◌, ◌↔◌, ◌<◌, ℕ, false, IfOk, IsTrue, length, replicate};
-ghost use Rattle.std.specs.List.{count_by, list_all};
+ghost use Rattle.std.specs.List.{count_by};
 ghost use Rattle.rb_code.specs.Instructions.Plain.{code as plain};
 ghost use Rattle.rb_code.specs.SoundCode.WellFormed.{HasOneEach};
 ghost use Rattle.rb_lists.specs.Marks.{block_marked, is_marked};
 
+use crate::rule::{Allows, all_allowed};
 use rb_base::Memory;
 use rb_code::{Code, Instr};
 use std::alloc::Global;
@@ -54,20 +55,19 @@ fn see_each_once(mark: Mark, instrs: &[Instr], seen: &mut [bool]) -> bool
             }
         }
     }
-    all_seen(seen)
+    all_allowed(&Seen, seen)
 }
 
-fn all_seen(seen: &[bool]) -> bool
-    ensures { result ≡ list_all (λ one. one) seen.now }
-{
-    let mut rest = seen;
-    'seen: while let [one, after @ ..] = rest {
-        if !*one {
-            return false;
-        }
-        rest = after;
+// Marks that were seen.
+#[derive(Clone, Copy)]
+struct Seen;
+
+impl Allows<bool> for Seen {
+    ghost Law = { λ _ one. IsTrue one };
+
+    fn allows(&self, one: &bool) -> bool {
+        *one
     }
-    true
 }
 
 fn block_marked(mark: Mark, instr: Instr) -> Option<u32>

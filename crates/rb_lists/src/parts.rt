@@ -7,6 +7,7 @@ ghost use Rattle.rb_code.specs.SoundCode.WellFormed.{IsPart};
 ghost use Rattle.rb_trace.specs.Fitting.{LiesWithin};
 ghost use Rattle.rb_lists.specs.Variables.{LieInParts};
 
+use crate::rule::{Allows, Below, all_allowed};
 use rb_base::{ProcessNames, Variable};
 use rb_code::{Code, ProcedureCode, ProcessCode};
 
@@ -14,36 +15,26 @@ use rb_code::{Code, ProcedureCode, ProcessCode};
 pub(crate) fn are_parts(code: &Code) -> bool
     ensures { IsTrue result ↔ All (λ process. IsPart (plain code.now) (plain_part process)) code.now.processes.items }
 {
-    let mut rest = code.processes.as_slice();
-    'processes: while let [process, after @ ..] = rest {
-        if !is_part(code, process) {
-            return false;
-        }
-        rest = after;
-    }
-    true
+    all_allowed(code, &code.processes)
 }
 
-fn is_part(code: &Code, process: &ProcessCode) -> bool
-    ensures { IsTrue result ↔ IsPart (plain code.now) (plain_part process.now) }
-{
-    let instrs = code.instrs.len();
-    process.words <= code.edition.most_words()
-        && (process.start as usize) < instrs
-        && begin_there(instrs, &process.procedures)
+impl Allows<ProcessCode> for Code {
+    ghost Law = { λ code process. IsPart (plain code) (plain_part process) };
+
+    fn allows(&self, process: &ProcessCode) -> bool {
+        let instrs = self.instrs.len();
+        process.words <= self.edition.most_words()
+            && (process.start as usize) < instrs
+            && all_allowed(&Below(instrs), &process.procedures)
+    }
 }
 
-fn begin_there(instrs: usize, procedures: &[ProcedureCode]) -> bool
-    ensures { IsTrue result ↔ All (λ one. one.start < instrs) procedures.now }
-{
-    let mut rest = procedures;
-    'procedures: while let [procedure, after @ ..] = rest {
-        if procedure.start as usize >= instrs {
-            return false;
-        }
-        rest = after;
+impl Allows<ProcedureCode> for Below {
+    ghost Law = { λ below one. one.start < below.0 };
+
+    fn allows(&self, procedure: &ProcedureCode) -> bool {
+        (procedure.start as usize) < self.0
     }
-    true
 }
 
 /// Whether what is printed of each process lies within its words; false where these are not as many.
@@ -68,18 +59,17 @@ pub(crate) fn variables_lie(names: &[ProcessNames], processes: &[ProcessCode]) -
 fn lie_within(words: u32, variables: &[Variable]) -> bool
     ensures { IsTrue result ↔ AllByRecursion (LiesWithin words) variables.now }
 {
-    let mut rest = variables;
-    'variables: while let [variable, after @ ..] = rest {
-        if !lies_within(words, variable) {
-            return false;
-        }
-        rest = after;
-    }
-    true
+    all_allowed(&Words(words), variables)
 }
 
-fn lies_within(words: u32, variable: &Variable) -> bool
-    ensures { IsTrue result ↔ LiesWithin words variable.now }
-{
-    u64::from(variable.at) + u64::from(variable.size.unwrap_or(1)) <= u64::from(words)
+// So many words of a process.
+#[derive(Clone, Copy)]
+struct Words(u32);
+
+impl Allows<Variable> for Words {
+    ghost Law = { λ words. LiesWithin words.0 };
+
+    fn allows(&self, variable: &Variable) -> bool {
+        u64::from(variable.at) + u64::from(variable.size.unwrap_or(1)) <= u64::from(self.0)
+    }
 }

@@ -1,12 +1,13 @@
 //! Instructions.
 
 ghost use Rattle.std.specs.Prelude.{◌≡◌, ℕ, List};
+ghost use Rattle.std.proofs.Common.{lit≤};
 ghost use Rattle.rb_code.specs.declared.instr.Instr.{Instr as PlainInstr};
-ghost use Rattle.rb_image.specs.Reading.{Gives, both, list_at, natural_at};
+ghost use Rattle.rb_image.specs.Reading.{Gives, both, natural_at};
 ghost use Rattle.rb_image.specs.ReadInstrs.{instr_at, like_at, taken_by};
 
 use crate::FormRefusal;
-use crate::read::list::{Item, read_list};
+use crate::read::list::{Item, Listed};
 use crate::read::number::{read_integer, read_natural, read_spot};
 use crate::read::sample::{Operands, operands_of, put_one, put_two, put_word, sample_of};
 use rb_code::Instr;
@@ -24,11 +25,12 @@ impl Item for Instr {
     }
 }
 
-/// A list of instructions.
-pub(crate) fn read_instrs(alloc: Global, bytes: &[u8]) -> Result<(Vec<Instr>, &[u8]), FormRefusal>
-    ensures { Gives (λ x. (x.0.items, x.1.now)) result (list_at 1 instr_at bytes.now) }
-{
-    read_list(alloc, bytes, 1)
+impl Listed for Instr {
+    const LEAST: usize = 1;
+
+    ghost LEAST = { 1 };
+
+    ghost some = { lit≤ tt };
 }
 
 /// The instruction at the front.

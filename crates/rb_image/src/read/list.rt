@@ -1,10 +1,11 @@
 //! Lists: their length, and their items one after another.
 
-ghost use Rattle.std.specs.Prelude.{◌≡◌, ℕ, ◌<◌, ◌^◌, List, map, vec_len, IfOk};
-ghost use Rattle.rb_image.specs.Reading.{Gives, Reading, few_at, items_at, list_at, natural_at, text_at};
+ghost use Rattle.std.specs.Prelude.{◌≡◌, ℕ, ◌<◌, ◌^◌, List, Option, map, vec_len, IfOk};
+ghost use Rattle.std.proofs.Common.{lit≤};
+ghost use Rattle.rb_image.specs.Reading.{Gives, Reading, both, few_at, items_at, list_at, natural_at, optional_at, text_at};
 
 use crate::FormRefusal;
-use crate::read::number::{read_natural, read_text, read_word};
+use crate::read::number::{read_natural, read_optional, read_text, read_word};
 use rb_base::Text;
 use std::alloc::Global;
 
@@ -20,6 +21,16 @@ pub(crate) trait Item: Sized + Drop {
     /// The item at the front.
     fn read(alloc: Global, bytes: &[u8]) -> Result<(Self, &[u8]), FormRefusal>
         ensures { Gives (λ x. (plain x.0, x.1.now)) result (reading bytes.now) };
+}
+
+/// An item of lists.
+pub(crate) trait Listed: Item {
+    /// The fewest bytes of one.
+    const LEAST: usize;
+
+    ghost LEAST: { ℕ };
+
+    ghost some: { 0 < LEAST };
 }
 
 /// A list of items that have so many bytes each, at least. Memory is taken only for as many as the bytes can hold.
@@ -99,18 +110,59 @@ impl Item for Text {
     }
 }
 
-/// A list of numbers of 32 bits.
-pub(crate) fn read_naturals(alloc: Global, bytes: &[u8]) -> Result<(Vec<u32>, &[u8]), FormRefusal>
-    ensures { Gives (λ x. (x.0.items, x.1.now)) result (list_at 8 natural_at bytes.now) }
-{
-    read_list(alloc, bytes, 8)
+impl Item for Option<u32> {
+    ghost Plain = { Option ℕ };
+
+    ghost plain = { λ number. number };
+
+    ghost reading = { optional_at };
+
+    fn read(_alloc: Global, bytes: &[u8]) -> Result<(Option<u32>, &[u8]), FormRefusal> {
+        read_optional(bytes)
+    }
 }
 
-/// A list of texts.
-pub(crate) fn read_texts(alloc: Global, bytes: &[u8]) -> Result<(Vec<Text>, &[u8]), FormRefusal>
-    ensures { Gives (λ x. (x.0.items, x.1.now)) result (list_at 8 text_at bytes.now) }
-{
-    read_list(alloc, bytes, 8)
+impl Listed for u32 {
+    const LEAST: usize = 8;
+
+    ghost LEAST = { 8 };
+
+    ghost some = { lit≤ tt };
+}
+
+impl Listed for Text {
+    const LEAST: usize = 8;
+
+    ghost LEAST = { 8 };
+
+    ghost some = { lit≤ tt };
+}
+
+// One item behind another.
+impl<A: Item, B: Item> Item for (A, B) {
+    ghost Plain = { A.Plain × B.Plain };
+
+    ghost plain = { λ two. (A.plain two.0, B.plain two.1) };
+
+    ghost reading = { both A.reading B.reading };
+
+    fn read(alloc: Global, bytes: &[u8]) -> Result<((A, B), &[u8]), FormRefusal> {
+        let (first, rest) = A::read(alloc, bytes)?;
+        let (second, rest) = B::read(alloc, rest)?;
+        Ok(((first, second), rest))
+    }
+}
+
+impl<T: Listed> Item for Vec<T> {
+    ghost Plain = { List T.Plain };
+
+    ghost plain = { λ items. map T.plain items.items };
+
+    ghost reading = { list_at T.LEAST T.reading };
+
+    fn read(alloc: Global, bytes: &[u8]) -> Result<(Vec<T>, &[u8]), FormRefusal> {
+        read_list(alloc, bytes, T::LEAST)
+    }
 }
 
 /// A list of fewer than 2^32 texts.

@@ -1,18 +1,25 @@
 //! Names, and the conversations.
 
 ghost use Rattle.std.specs.Prelude.{◌≡◌, ℕ, List, map};
+ghost use Rattle.std.proofs.Common.{lit≤};
 ghost use Rattle.rb_world.specs.Kind.{Membership};
-ghost use Rattle.rb_world.specs.Text.{ProcessNaming, VariableNaming};
+ghost use Rattle.rb_world.specs.Text.{Naming, ProcessNaming, VariableNaming};
 ghost use Rattle.rb_trace.specs.Naming.{naming, process_naming, variable_naming};
 ghost use Rattle.rb_nest.specs.Groups.{membership};
-ghost use Rattle.rb_image.specs.Reading.{Gives};
 ghost use Rattle.rb_image.specs.ReadParts.{group_at, names_at, process_names_at, variable_at};
 
 use crate::FormRefusal;
-use crate::read::list::{Item, read_few, read_few_texts, read_list, read_naturals};
-use crate::read::number::{read_natural, read_optional, read_text};
-use rb_base::{Group, Names, ProcessNames, Variable};
+use crate::read::list::{Item, Listed, read_few, read_few_texts};
+use rb_base::{Group, Names, ProcessNames, Text, Variable};
 use std::alloc::Global;
+
+impl Listed for Variable {
+    const LEAST: usize = 24;
+
+    ghost LEAST = { 24 };
+
+    ghost some = { lit≤ tt };
+}
 
 impl Item for Variable {
     ghost Plain = { VariableNaming };
@@ -23,9 +30,7 @@ impl Item for Variable {
 
     #[tactic(auto, unfolding(crate::specs::ReadParts::variable_at))]
     fn read(alloc: Global, bytes: &[u8]) -> Result<(Self, &[u8]), FormRefusal> {
-        let (name, rest) = read_text(alloc, bytes)?;
-        let (at, rest) = read_natural(rest)?;
-        let (size, rest) = read_optional(rest)?;
+        let ((name, (at, size)), rest) = <(Text, (u32, Option<u32>))>::read(alloc, bytes)?;
         Ok((Variable { name, at, size }, rest))
     }
 }
@@ -39,8 +44,7 @@ impl Item for ProcessNames {
 
     #[tactic(auto, unfolding(crate::specs::ReadParts::process_names_at))]
     fn read(alloc: Global, bytes: &[u8]) -> Result<(Self, &[u8]), FormRefusal> {
-        let (name, rest) = read_text(alloc, bytes)?;
-        let (variables, rest) = read_list(alloc, rest, 24)?;
+        let ((name, variables), rest) = <(Text, Vec<Variable>)>::read(alloc, bytes)?;
         Ok((ProcessNames { name, variables }, rest))
     }
 }
@@ -54,9 +58,9 @@ impl Item for Group {
 
     #[tactic(auto, unfolding(crate::specs::ReadParts::group_at))]
     fn read(alloc: Global, bytes: &[u8]) -> Result<(Self, &[u8]), FormRefusal> {
-        let (members, rest) = read_naturals(alloc, bytes)?;
-        let (parent, rest) = read_optional(rest)?;
-        let (alternates, rest) = read_natural(rest)?;
+        let ((members, (parent, alternates)), rest) = <(Vec<u32>, (Option<u32>, u32))>::read(
+            alloc, bytes,
+        )?;
         let group = Group {
             members,
             parent,
@@ -67,17 +71,23 @@ impl Item for Group {
 }
 
 /// The names that printed lines speak of.
-#[tactic(auto, unfolding(crate::specs::ReadParts::names_at))]
-pub(crate) fn read_names(alloc: Global, bytes: &[u8]) -> Result<(Names, &[u8]), FormRefusal>
-    ensures { Gives (λ x. (naming x.0, x.1.now)) result (names_at bytes.now) }
-{
-    let (processes, rest) = read_few(alloc, bytes, 16)?;
-    let (channels, rest) = read_few_texts(alloc, rest)?;
-    let (conversations, rest) = read_few_texts(alloc, rest)?;
-    let names = Names {
-        processes,
-        channels,
-        conversations,
-    };
-    Ok((names, rest))
+impl Item for Names {
+    ghost Plain = { Naming };
+
+    ghost plain = { naming };
+
+    ghost reading = { names_at };
+
+    #[tactic(auto, unfolding(crate::specs::ReadParts::names_at))]
+    fn read(alloc: Global, bytes: &[u8]) -> Result<(Self, &[u8]), FormRefusal> {
+        let (processes, rest) = read_few(alloc, bytes, 16)?;
+        let (channels, rest) = read_few_texts(alloc, rest)?;
+        let (conversations, rest) = read_few_texts(alloc, rest)?;
+        let names = Names {
+            processes,
+            channels,
+            conversations,
+        };
+        Ok((names, rest))
+    }
 }

@@ -1,16 +1,25 @@
 //! Processes and their procedures, recovery blocks and channels.
 
 ghost use Rattle.std.specs.Prelude.{◌≡◌, ℕ, List, map};
+ghost use Rattle.std.proofs.Common.{lit≤};
 ghost use Rattle.rb_world.specs.Kind.{Ends};
 ghost use Rattle.rb_code.specs.Instructions.Plain.{Block, Part, Procedure, block, channel, part, procedure};
 ghost use Rattle.rb_image.specs.Reading.{Gives};
 ghost use Rattle.rb_image.specs.ReadParts.{block_at, channel_at, procedure_at, process_at};
 
 use crate::FormRefusal;
-use crate::read::list::{Item, read_list, read_naturals};
-use crate::read::number::{read_natural, read_optional, read_text};
+use crate::read::list::{Item, Listed};
+use rb_base::Text;
 use rb_code::{BlockCode, ChannelCode, ProcedureCode, ProcessCode};
 use std::alloc::Global;
+
+impl Listed for ProcedureCode {
+    const LEAST: usize = 16;
+
+    ghost LEAST = { 16 };
+
+    ghost some = { lit≤ tt };
+}
 
 impl Item for ProcedureCode {
     ghost Plain = { Procedure };
@@ -21,10 +30,17 @@ impl Item for ProcedureCode {
 
     #[tactic(auto, unfolding(crate::specs::ReadParts::procedure_at))]
     fn read(alloc: Global, bytes: &[u8]) -> Result<(Self, &[u8]), FormRefusal> {
-        let (name, rest) = read_text(alloc, bytes)?;
-        let (start, rest) = read_natural(rest)?;
+        let ((name, start), rest) = <(Text, u32)>::read(alloc, bytes)?;
         Ok((ProcedureCode { name, start }, rest))
     }
+}
+
+impl Listed for ProcessCode {
+    const LEAST: usize = 32;
+
+    ghost LEAST = { 32 };
+
+    ghost some = { lit≤ tt };
 }
 
 impl Item for ProcessCode {
@@ -36,10 +52,8 @@ impl Item for ProcessCode {
 
     #[tactic(auto, unfolding(crate::specs::ReadParts::process_at))]
     fn read(alloc: Global, bytes: &[u8]) -> Result<(Self, &[u8]), FormRefusal> {
-        let (start, rest) = read_natural(bytes)?;
-        let (words, rest) = read_natural(rest)?;
-        let (channels, rest) = read_naturals(alloc, rest)?;
-        let (procedures, rest) = read_list(alloc, rest, 16)?;
+        let (parts, rest) = <(u32, (u32, (Vec<u32>, Vec<ProcedureCode>)))>::read(alloc, bytes)?;
+        let (start, (words, (channels, procedures))) = parts;
         let process = ProcessCode {
             start,
             words,
@@ -48,6 +62,14 @@ impl Item for ProcessCode {
         };
         Ok((process, rest))
     }
+}
+
+impl Listed for BlockCode {
+    const LEAST: usize = 48;
+
+    ghost LEAST = { 48 };
+
+    ghost some = { lit≤ tt };
 }
 
 impl Item for BlockCode {
@@ -59,12 +81,10 @@ impl Item for BlockCode {
 
     #[tactic(auto, unfolding(crate::specs::ReadParts::block_at))]
     fn read(alloc: Global, bytes: &[u8]) -> Result<(Self, &[u8]), FormRefusal> {
-        let (line, rest) = read_natural(bytes)?;
-        let (conversation, rest) = read_optional(rest)?;
-        let (bound, rest) = read_natural(rest)?;
-        let (restart, rest) = read_natural(rest)?;
-        let (test, rest) = read_natural(rest)?;
-        let (alternates, rest) = read_naturals(alloc, rest)?;
+        let (parts, rest) = <(u32, (Option<u32>, (u32, (u32, (u32, Vec<u32>)))))>::read(
+            alloc, bytes,
+        )?;
+        let (line, (conversation, (bound, (restart, (test, alternates))))) = parts;
         let block = BlockCode {
             line,
             conversation,
@@ -77,6 +97,14 @@ impl Item for BlockCode {
     }
 }
 
+impl Listed for ChannelCode {
+    const LEAST: usize = 24;
+
+    ghost LEAST = { 24 };
+
+    ghost some = { lit≤ tt };
+}
+
 impl Item for ChannelCode {
     ghost Plain = { Ends };
 
@@ -85,10 +113,8 @@ impl Item for ChannelCode {
     ghost reading = { channel_at };
 
     #[tactic(auto, unfolding(crate::specs::ReadParts::channel_at))]
-    fn read(_alloc: Global, bytes: &[u8]) -> Result<(Self, &[u8]), FormRefusal> {
-        let (sender, rest) = read_natural(bytes)?;
-        let (receiver, rest) = read_natural(rest)?;
-        let (size, rest) = read_natural(rest)?;
+    fn read(alloc: Global, bytes: &[u8]) -> Result<(Self, &[u8]), FormRefusal> {
+        let ((sender, (receiver, size)), rest) = <(u32, (u32, u32))>::read(alloc, bytes)?;
         let channel = ChannelCode {
             sender,
             receiver,

@@ -9,11 +9,9 @@ ghost use Rattle.rb_nest.specs.Groups.{alternates, memberships};
 ghost use Rattle.rb_image.specs.Image.{block as block_bytes, channel as channel_bytes, code as code_bytes, edition_number, group, magic, process as process_bytes, process_names};
 ghost use Rattle.rb_image.specs.Instrs.{instr};
 ghost use Rattle.rb_image.specs.Pieces.{list, natural, text as text_bytes};
-ghost use Rattle.rb_image.specs.Ranges.{Are, AreNames, IsBlock, IsChannel, IsCode, IsInstr, IsProcess, IsText};
+ghost use Rattle.rb_image.specs.Ranges.{IsCode};
 
-use crate::write::instr::put_instrs;
-use crate::write::list::{put_list, put_texts};
-use crate::write::names::put_names;
+use crate::write::list::Spelled;
 use crate::write::number::put_natural;
 use rb_base::{Edition, Nested};
 use rb_code::Code;
@@ -51,26 +49,6 @@ pub(crate) fn put_lists<S: Sink>(out: &mut S, code: &Code) -> Result<(), Failed>
         (S.written out.old) (S.written out.new) (S.faults out.old) (S.faults out.new) result }
     ensures ranges { OnOk result (IsCode (plain_code code.now)) }
 {
-    put_instrs(out, &code.instrs)?;
-    put_list(out, &code.processes)?;
-    put_tables(out, code)
-}
-
-fn put_tables<S: Sink>(out: &mut S, code: &Code) -> Result<(), Failed>
-    ensures text { Puts
-        (list block_bytes (map block code.now.blocks.items)
-        ++ (list channel_bytes (map channel code.now.channels.items)
-        ++ (list text_bytes code.now.texts.items
-        ++ (list process_names (naming code.now.names).processes
-        ++ (list text_bytes code.now.names.channels.items ++ list text_bytes code.now.names.conversations.items)))))
-        (S.written out.old) (S.written out.new) (S.faults out.old) (S.faults out.new) result }
-    ensures blocks { OnOk result (Are IsBlock (map block code.now.blocks.items)) }
-    ensures channels { OnOk result (Are IsChannel (map channel code.now.channels.items)) }
-    ensures texts { OnOk result (Are IsText code.now.texts.items) }
-    ensures names { OnOk result (AreNames (naming code.now.names)) }
-{
-    put_list(out, &code.blocks)?;
-    put_list(out, &code.channels)?;
-    put_texts(out, &code.texts)?;
-    put_names(out, &code.names)
+    let tables = (&code.blocks, &(&code.channels, &(&code.texts, &code.names)));
+    (&code.instrs, &(&code.processes, &tables)).put(out)
 }

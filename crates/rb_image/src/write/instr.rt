@@ -4,11 +4,11 @@ ghost use Rattle.std.specs.Prelude.{◌≡◌, ℕ, ◌<◌, ◌^◌, List, [], 
 ghost use Rattle.rb_outside.specs.Puts.{Puts};
 ghost use Rattle.rb_code.specs.declared.instr.Instr.{Instr as PlainInstr};
 ghost use Rattle.rb_image.specs.Instrs.{code, instr as bytes_of};
-ghost use Rattle.rb_image.specs.Pieces.{list, natural, number, spot as spot_bytes};
-ghost use Rattle.rb_image.specs.Ranges.{Are, IsInstr, IsSpot};
+ghost use Rattle.rb_image.specs.Pieces.{natural, number, spot as spot_bytes};
+ghost use Rattle.rb_image.specs.Ranges.{IsInstr, IsSpot};
 ghost use Rattle.rb_image.specs.WriteInstrs.{operands_in};
 
-use crate::write::list::{Spelled, put_list};
+use crate::write::list::Spelled;
 use crate::write::number::put_natural;
 use rb_code::{Instr, Spot};
 use rb_outside::{Failed, Sink};
@@ -186,12 +186,4 @@ fn coded(code: u8, n: u64) -> [u8; 9]
 {
     let [a, b, c, d, e, f, g, h] = n.to_be_bytes();
     [code, a, b, c, d, e, f, g, h]
-}
-
-/// Writes a list of instructions.
-pub(crate) fn put_instrs<S: Sink>(out: &mut S, instrs: &[Instr]) -> Result<(), Failed>
-    ensures text { Puts (list bytes_of instrs.now) (S.written out.old) (S.written out.new) (S.faults out.old) (S.faults out.new) result }
-    ensures ranges { OnOk result (Are IsInstr instrs.now) }
-{
-    put_list(out, instrs)
 }

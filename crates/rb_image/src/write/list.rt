@@ -1,12 +1,12 @@
 //! Lists: their length, and their items one after another.
 
-ghost use Rattle.std.specs.Prelude.{◌≡◌, ℕ, ◌<◌, ◌^◌, List, length, map, OnOk};
+ghost use Rattle.std.specs.Prelude.{◌≡◌, ℕ, ◌<◌, ◌^◌, List, ◌++◌, Option, length, map, OnOk};
 ghost use Rattle.std.specs.List.{AllByRecursion, flat_map};
 ghost use Rattle.rb_outside.specs.Puts.{Puts};
-ghost use Rattle.rb_image.specs.Pieces.{list, natural, text as text_bytes};
-ghost use Rattle.rb_image.specs.Ranges.{Are, IsNatural, IsText};
+ghost use Rattle.rb_image.specs.Pieces.{list, natural, optional, text as text_bytes};
+ghost use Rattle.rb_image.specs.Ranges.{Are, IsNatural, IsOptional, IsText};
 
-use crate::write::number::{put_length, put_natural, put_text};
+use crate::write::number::{put_length, put_natural, put_optional, put_text};
 use rb_base::Text;
 use rb_outside::{Failed, Sink};
 
@@ -76,18 +76,46 @@ impl Spelled for Text {
     }
 }
 
-/// Writes a list of numbers.
-pub(crate) fn put_naturals<S: Sink>(out: &mut S, numbers: &[u32]) -> Result<(), Failed>
-    ensures text { Puts (list natural numbers.now) (S.written out.old) (S.written out.new) (S.faults out.old) (S.faults out.new) result }
-    ensures ranges { OnOk result (Are IsNatural numbers.now) }
-{
-    put_list(out, numbers)
+impl Spelled for Option<u32> {
+    ghost Plain = { Option ℕ };
+
+    ghost plain = { λ number. number };
+
+    ghost bytes = { optional };
+
+    ghost Ranges = { IsOptional };
+
+    fn put<S: Sink>(&self, out: &mut S) -> Result<(), Failed> {
+        put_optional(out, *self)
+    }
 }
 
-/// Writes a list of texts.
-pub(crate) fn put_texts<S: Sink>(out: &mut S, texts: &[Text]) -> Result<(), Failed>
-    ensures text { Puts (list text_bytes texts.now) (S.written out.old) (S.written out.new) (S.faults out.old) (S.faults out.new) result }
-    ensures ranges { OnOk result (Are IsText texts.now) }
-{
-    put_list(out, texts)
+// One item behind another.
+impl<'a, 'b, A: Spelled, B: Spelled> Spelled for (&'a A, &'b B) {
+    ghost Plain = { A.Plain × B.Plain };
+
+    ghost plain = { λ two. (A.plain two.0.now, B.plain two.1.now) };
+
+    ghost bytes = { λ two. A.bytes two.0 ++ B.bytes two.1 };
+
+    ghost Ranges = { λ two. A.Ranges two.0 × B.Ranges two.1 };
+
+    fn put<S: Sink>(&self, out: &mut S) -> Result<(), Failed> {
+        self.0.put(out)?;
+        self.1.put(out)
+    }
+}
+
+impl<T: Spelled> Spelled for Vec<T> {
+    ghost Plain = { List T.Plain };
+
+    ghost plain = { λ items. map T.plain items.items };
+
+    ghost bytes = { list T.bytes };
+
+    ghost Ranges = { Are T.Ranges };
+
+    fn put<S: Sink>(&self, out: &mut S) -> Result<(), Failed> {
+        put_list(out, self)
+    }
 }

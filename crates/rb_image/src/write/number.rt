@@ -1,7 +1,6 @@
 //! Numbers, texts and optional numbers.
 
 ghost use Rattle.std.specs.Prelude.{◌≡◌, ℕ, ◌<◌, ◌^◌, List, ◌++◌, OnOk, length};
-ghost use Rattle.std.specs.List.{flat_map};
 ghost use Rattle.rb_outside.specs.Puts.{Puts};
 ghost use Rattle.rb_image.specs.Pieces.{natural, number, optional, text as text_bytes};
 ghost use Rattle.rb_image.specs.Ranges.{IsOptional, IsText};
@@ -29,16 +28,6 @@ pub(crate) fn put_length<S: Sink>(out: &mut S, length: usize) -> Result<(), Fail
     ensures { Puts (natural length) (S.written out.old) (S.written out.new) (S.faults out.old) (S.faults out.new) result }
 {
     put_word(out, length as u64)
-}
-
-/// Writes numbers.
-pub(crate) fn put_numbers<S: Sink>(out: &mut S, numbers: &[u32]) -> Result<(), Failed>
-    ensures { Puts (flat_map natural numbers.now) (S.written out.old) (S.written out.new) (S.faults out.old) (S.faults out.new) result }
-{
-    for number in numbers {
-        put_natural(out, *number)?;
-    }
-    Ok(())
 }
 
 /// Writes an optional number.

@@ -17,5 +17,5 @@ returns-then-seen-block c =
 
 pub returns : goal.returns
 returns c =
-    tells_seen (is_marked c.args.mark) c.args.instrs.now c.loop-instr.instr-index (length c.args.seen.now) c.loop-instr.seen c.all_seen.result
-    c.loop-instr.auto.seen c.loop-instr-test.false c.loop-instr.invariant c.all_seen.ensures
+    tells_seen (is_marked c.args.mark) c.args.instrs.now c.loop-instr.instr-index (length c.args.seen.now) c.loop-instr.seen c.all_allowed.result
+    c.loop-instr.auto.seen c.loop-instr-test.false c.loop-instr.invariant c.all_allowed.ensures

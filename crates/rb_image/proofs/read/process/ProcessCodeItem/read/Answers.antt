@@ -1,33 +1,15 @@
-use Rattle.std.proofs.Common.{refl}
-use Rattle.std.proofs.lemmas.Result.{err_from_is_err_and}
-use Rattle.rb_image.specs.ReadParts.{process_at}
-use Rattle.rb_image.proofs.Chains.{fails_with}
+use Rattle.std.proofs.Common.{ℕ, List, map, ap}
+use Rattle.std.proofs.lemmas.List.{map-id}
+use Rattle.rb_code.specs.Instructions.Plain.{procedure}
+use Rattle.rb_image.specs.Reading.{both, list_at, natural_at}
+use Rattle.rb_image.specs.ReadParts.{part_of, procedure_at, process_at}
+use Rattle.rb_image.proofs.Chains.{made_as}
 use Rattle.rb_image.proofs.read.process.ProcessCodeItem.read.Goals as goal
-
-pub returns-in_err-start : goal.returns-in_err-start
-unfolding process_at
-returns-in_err-start c =
-    let p = err_from_is_err_and c.from_residual.result c.from_residual.ensures.1 in
-    rw (p.1, p.2) (fails_with _ _ _ c.in_err-start.ensures (λ none. rw none refl))
-
-pub returns-in_err-words : goal.returns-in_err-words
-unfolding process_at
-returns-in_err-words c =
-    let p = err_from_is_err_and c.from_residual-in_err-words.result c.from_residual-in_err-words.ensures.1 in
-    rw (p.1, p.2) (fails_with _ _ _ c.in_err-words.ensures (λ none. rw (c.in_ok-start.ensures, none) refl))
-
-pub returns-in_err-channels : goal.returns-in_err-channels
-unfolding process_at
-returns-in_err-channels c =
-    let p = err_from_is_err_and c.from_residual-in_err-channels.result c.from_residual-in_err-channels.ensures.1 in
-    rw (p.1, p.2) (fails_with _ _ _ c.in_err-channels.ensures (λ none. rw (c.in_ok-start.ensures, c.in_ok-words.ensures, none) refl))
-
-pub returns-in_err-procedures : goal.returns-in_err-procedures
-unfolding process_at
-returns-in_err-procedures c =
-    let p = err_from_is_err_and c.from_residual-in_err-procedures.result c.from_residual-in_err-procedures.ensures.1 in
-    rw (p.1, p.2) (fails_with _ _ _ c.in_err-procedures.ensures (λ none. rw (c.in_ok-start.ensures, c.in_ok-words.ensures, c.in_ok-channels.ensures, none) refl))
 
 pub returns : goal.returns
 unfolding process_at
-returns c = rw (c.in_ok-start.ensures, c.in_ok-words.ensures, c.in_ok-channels.ensures, c.in_ok-procedures.ensures) refl
+returns c =
+    let parts = c.in_ok-parts.parts in
+    made_as part_of (both natural_at (both natural_at (both (list_at 8 natural_at) (list_at 16 procedure_at)))) c.args.bytes.now _ _
+    c.in_ok-parts.ensures
+    (ap (λ (channels : List ℕ). part_of (parts.0, (parts.1.0, (channels, map procedure parts.1.1.1.items)))) (map-id parts.1.1.0.items))
