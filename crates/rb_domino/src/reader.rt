@@ -2,7 +2,7 @@
 
 ghost use Rattle.std.specs.Prelude.{◌≡◌, ◌+◌, ◌-◌, ◌^◌, ◌<◌, ◌≤◌, ◌∷◌, ◌++◌, [], true, false, vec_len, Some, None, Ok, MatchResult, OnOk};
 ghost use Rattle.rb_sched.specs.Schedule.{words_of};
-ghost use Rattle.rb_domino.specs.History.{no_story, is_short_name, has_failed, process_of, message_of, read_words, read_process, read_point, read_send, read_take, read_fail, before_failure, sends};
+ghost use Rattle.rb_domino.specs.History.{no_story, is_short_name, has_failed, is_taken, process_of, message_of, read_words, read_process, read_point, read_send, read_take, read_fail, before_failure, sends};
 ghost use Rattle.rb_domino.specs.Reading.{Stands, Takes, story_of};
 
 use crate::line::{Line, Message};
@@ -222,7 +222,7 @@ impl<'a> Reader<'a> {
         let Some(message) = self.message(name) else {
             return Err(LineRefusal::Fault(FaultName::H4));
         };
-        if self.taken[message as usize] {
+        if self.is_taken(message) {
             return Err(LineRefusal::Fault(FaultName::H4));
         }
         self.before_failure()?;
@@ -256,6 +256,15 @@ impl<'a> Reader<'a> {
         ensures { result ≡ message_of (story_of self.now) name.now }
     {
         self.message_numbers.get(name).copied()
+    }
+
+    // Whether a message was taken.
+    fn is_taken(&self, m: u32) -> bool
+        requires stands { Stands self.now }
+        requires known { m < vec_len self.now.taken }
+        ensures { result ≡ is_taken (story_of self.now) m }
+    {
+        self.taken[m as usize]
     }
 
     fn known_process(&self, name: &[u8]) -> Result<u32, LineRefusal>
