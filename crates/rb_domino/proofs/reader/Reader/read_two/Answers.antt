@@ -1,10 +1,9 @@
-use Rattle.std.proofs.Common.{◌≡◌, ℕ, Bool, List, ◌∷◌, [], false, true, cond, codes, nat_eq, Result, Err, sym, ap, ◌∙◌, subst}
-use Rattle.std.specs.Cmp.Lexicographic.{pointwise}
+use Rattle.std.proofs.Common.{◌≡◌, ℕ, Bool, List, ◌∷◌, [], false, true, cond, Result, Err, sym, ap, ◌∙◌, subst}
 use Rattle.rb_base.specs.declared.fault.FaultName.{FaultName}
 use Rattle.rb_base.specs.declared.fault.FaultName.TheVariants.{H1}
 use Rattle.rb_domino.specs.declared.reader.LineRefusal.{LineRefusal}
 use Rattle.rb_domino.specs.declared.reader.Reader.{Reader}
-use Rattle.rb_domino.specs.History.{Story, before_failure, is_short_name, is_word, read_fail, read_point, read_process, read_take, read_two, read_words}
+use Rattle.rb_domino.specs.History.{Story, before_failure, is_short_name, read_fail, read_point, read_process, read_take, read_two, read_words}
 use Rattle.rb_domino.specs.Reading.{Takes, story_of}
 use Rattle.rb_domino.proofs.reader.Reader.read_two.Goals as goal
 
