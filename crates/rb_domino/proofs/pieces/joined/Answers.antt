@@ -17,7 +17,8 @@ where_well (Err e) x is p = absurd (cc)
 -- a piece more
 piece_more : (pieces : List (Bor (List ℕ))) (i : ℕ) (d : Bor (List ℕ)) (old new : List ℕ) → i < length pieces
     → old ≡ flat_map text (take i pieces) → new ≡ old ++ text (get_or pieces i d) → new ≡ flat_map text (take (i + 1) pieces)
-piece_more pieces i d old new within so_far more = more ∙ ap (λ (line : List ℕ). line ++ text (get_or pieces i d)) so_far ∙ grown text pieces i d within
+piece_more pieces i d old new within so_far more =
+    more ∙ ap (λ (line : List ℕ). line ++ text (get_or pieces i d)) so_far ∙ grown text pieces i d within
 
 pub loop-piece-preserved : goal.loop-piece-preserved
 loop-piece-preserved c =

@@ -38,7 +38,8 @@ returns-clause-takes c =
     let name = c.in-Some-next_word.name.now in
     let from = c.in-Some-next_word-2.from.now in
     let to = c.in-Some-next_word-3.to.now in
-    let end : words_from [] c.in-Some-next_word-3.rest.now ≡ [] = unless_some _ c.next_word-5.result (sym c.if-is_some.ensures) c.next_word-5.ensures in
+    let end : words_from [] c.in-Some-next_word-3.rest.now ≡ [] =
+    unless_some _ c.next_word-5.result (sym c.if-is_some.ensures) c.next_word-5.ensures in
     let four : words_of c.args.line.now ≡ verb ∷ name ∷ from ∷ to ∷ [] =
     words_left c.args.line.now _ _ _ c.without_cr.ensures c.without_comment.ensures
     (c.in-Some.ensures ∙ ap (λ (ws : List (List ℕ)). verb ∷ ws) c.in-Some-next_word.ensures

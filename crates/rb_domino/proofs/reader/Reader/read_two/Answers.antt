@@ -77,3 +77,39 @@ returns-else-is_word-4-clause-takes c =
     let no_fail = sym c.is_word-else-is_word-3.ensures ∙ c.if-is_word-4.false in
     holds _ _ _ (sym c.is_short_name.ensures ∙ c.if-not-is_short_name.false)
     ∙ ap (before_failure story) (fails _ _ _ no_process ∙ fails _ _ _ no_point ∙ fails _ _ _ no_take ∙ fails _ _ _ no_fail)
+
+pub read_process-requires-clause-few : goal.read_process-requires-clause-few
+read_process-requires-clause-few c = c.requires.few
+
+pub read_process-requires-clause-stands : goal.read_process-requires-clause-stands
+read_process-requires-clause-stands c = c.requires.stands
+
+pub read_point-requires-clause-few : goal.read_point-requires-clause-few
+read_point-requires-clause-few c = c.requires.few
+
+pub read_point-requires-clause-stands : goal.read_point-requires-clause-stands
+read_point-requires-clause-stands c = c.requires.stands
+
+pub read_take-requires-clause-few : goal.read_take-requires-clause-few
+read_take-requires-clause-few c = c.requires.few
+
+pub read_take-requires-clause-stands : goal.read_take-requires-clause-stands
+read_take-requires-clause-stands c = c.requires.stands
+
+pub read_fail-requires-clause-few : goal.read_fail-requires-clause-few
+read_fail-requires-clause-few c = c.requires.few
+
+pub read_fail-requires-clause-stands : goal.read_fail-requires-clause-stands
+read_fail-requires-clause-stands c = c.requires.stands
+
+pub returns-then-is_word-clause-grows : goal.returns-then-is_word-clause-grows
+returns-then-is_word-clause-grows c = c.read_process.ensures.grows
+
+pub returns-then-is_word-2-clause-grows : goal.returns-then-is_word-2-clause-grows
+returns-then-is_word-2-clause-grows c = c.read_point.ensures.grows
+
+pub returns-then-is_word-3-clause-grows : goal.returns-then-is_word-3-clause-grows
+returns-then-is_word-3-clause-grows c = c.read_take.ensures.grows
+
+pub returns-then-is_word-4-clause-grows : goal.returns-then-is_word-4-clause-grows
+returns-then-is_word-4-clause-grows c = c.read_fail.ensures.grows
