@@ -1,6 +1,6 @@
 -- Vectors as stacks: what lies on top.
-use Rattle.std.proofs.Common.{◌≡◌, ℕ, zero, suc, ◌-◌, ◌<◌, Vec, List, [], ◌∷◌, ◌++◌, length, drop, reverse, slice_get, slice_index_or, slice_set, Option, Some, None, MatchOption, refl, ap, ◌∙◌, sym, subst, arith, length-append}
-use Rattle.std.proofs.lemmas.List.{map-set, reverse-append, reverse-reverse}
+use Rattle.std.proofs.Common.{◌≡◌, ℕ, zero, suc, ◌+◌, ◌-◌, ◌<◌, Vec, List, [], ◌∷◌, ◌++◌, length, drop, reverse, slice_get, slice_index_or, slice_set, Option, Some, None, MatchOption, refl, ap, ◌∙◌, sym, subst, arith, length-append}
+use Rattle.std.proofs.lemmas.List.{length-reverse, map-set, reverse-append, reverse-reverse}
 use Rattle.rb_domino.specs.Board.{list_at, stack, stacks}
 
 -- one more lies on top
@@ -27,6 +27,16 @@ top_is {X} xs o is = by (stack xs) refl
         let o_is : Some y ≡ o = sym (is ∙ ap (λ l. slice_get l (length l - 1)) whole
         ∙ ap (slice_get (reverse ys ++ y ∷ [])) at ∙ get_last (reverse ys) y) in
         subst (λ o. MatchOption o (stack xs ≡ []) (λ x. stack xs ≡ x ∷ drop 1 (stack xs))) o_is (e ∙ ap (λ l. y ∷ drop 1 l) (sym e))
+
+-- a stack on which something lay is shorter once its top was taken off
+pub popped : {X : Type 0} (items : List X) (x : X) (o : Option X) (old new : ℕ) → stack items ≡ x ∷ drop 1 (stack items) → old ≡ length items
+    → MatchOption o ((old ≡ 0) × (new ≡ 0)) (λ _. new + 1 ≡ old) → new < old
+popped items x (Some y) old new some all by_pop = omega (arith, by_pop)
+popped items x None old new some all by_pop = absurd (
+    let filled = ap length some in
+    let never : ⊥ = omega (arith, filled, length-reverse items, all, by_pop.0) in
+    never
+    )
 
 -- the stack of one of many vectors
 pub stack_read : {X A : Type 0} (vectors : List (Vec X A)) (q : ℕ) (vector : Vec X A) → q < length vectors → vector ≡ slice_index_or vectors q vector

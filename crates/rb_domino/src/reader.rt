@@ -2,7 +2,7 @@
 
 ghost use Rattle.std.specs.Prelude.{◌≡◌, ◌+◌, ◌-◌, ◌^◌, ◌<◌, ◌≤◌, ◌∷◌, ◌++◌, [], true, false, vec_len, Some, None, Ok, MatchResult, OnOk};
 ghost use Rattle.rb_sched.specs.Schedule.{words_of};
-ghost use Rattle.rb_domino.specs.History.{no_story, is_short_name, has_failed, process_of, message_of, read_words, read_process, read_point, read_send, read_take, read_fail, before_failure, sends};
+ghost use Rattle.rb_domino.specs.History.{no_story, is_short_name, is_word, has_failed, is_taken, process_of, message_of, read_words, read_process, read_point, read_send, read_take, read_fail, before_failure, sends};
 ghost use Rattle.rb_domino.specs.Reading.{Stands, Takes, story_of};
 
 use crate::line::{Line, Message};
@@ -98,13 +98,13 @@ impl<'a> Reader<'a> {
         if !is_short_name(name) {
             return Err(LineRefusal::Fault(FaultName::H1));
         }
-        if verb == b"process".as_slice() {
+        if is_word(verb, b"process") {
             self.read_process(alloc, name)
-        } else if verb == b"point".as_slice() {
+        } else if is_word(verb, b"point") {
             self.read_point(name)
-        } else if verb == b"take".as_slice() {
+        } else if is_word(verb, b"take") {
             self.read_take(name)
-        } else if verb == b"fail".as_slice() {
+        } else if is_word(verb, b"fail") {
             self.read_fail(name)
         } else {
             Err(LineRefusal::Fault(FaultName::H1))
@@ -124,7 +124,7 @@ impl<'a> Reader<'a> {
         ensures takes { Takes (read_words (story_of self.old) (verb.now ∷ message.now ∷ from.now ∷ to.now ∷ [])) self.new result }
         ensures grows { vec_len self.new.lines ≤ vec_len self.old.lines + 1 }
     {
-        if verb != b"send".as_slice()
+        if !is_word(verb, b"send")
             || !is_short_name(message)
             || !is_short_name(from)
             || !is_short_name(to)
@@ -222,7 +222,7 @@ impl<'a> Reader<'a> {
         let Some(message) = self.message(name) else {
             return Err(LineRefusal::Fault(FaultName::H4));
         };
-        if self.taken[message as usize] {
+        if self.is_taken(message) {
             return Err(LineRefusal::Fault(FaultName::H4));
         }
         self.before_failure()?;
@@ -258,6 +258,15 @@ impl<'a> Reader<'a> {
         self.message_numbers.get(name).copied()
     }
 
+    // Whether a message was taken.
+    fn is_taken(&self, m: u32) -> bool
+        requires stands { Stands self.now }
+        requires known { m < vec_len self.now.taken }
+        ensures { result ≡ is_taken (story_of self.now) m }
+    {
+        self.taken[m as usize]
+    }
+
     fn known_process(&self, name: &[u8]) -> Result<u32, LineRefusal>
         requires { Stands self.now }
         ensures { MatchResult result
@@ -290,6 +299,12 @@ fn add_line(lines: &mut Vec<Line>, line: Line) -> Result<(), LineRefusal>
 {
     lines.push(line)?;
     Ok(())
+}
+
+fn is_word(word: &[u8], text: &[u8]) -> bool
+    ensures { result ≡ is_word text.now word.now }
+{
+    word == text
 }
 
 /// Whether a word is a name, and not too long.

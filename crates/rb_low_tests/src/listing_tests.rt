@@ -1,7 +1,8 @@
 //! The listing of a small code, written to a sink in memory.
 
 use crate::names;
-use rb_base::{Edition, Memory, Names, Text};
+use crate::names::{only, only_text};
+use rb_base::{Edition, Memory, Names};
 use rb_code::code::{Code, ProcessCode};
 use rb_code::instr::{Instr, Spot};
 use rb_code::listing::listing;
@@ -10,8 +11,7 @@ use std::alloc::Global;
 
 // A process `p`.
 fn names_of_one(alloc: Global) -> Result<Names, Memory> {
-    let mut processes = Vec::new(alloc);
-    processes.push(names::process(alloc, b"p")?)?;
+    let processes = only(alloc, names::process(alloc, b"p")?)?;
     Ok(Names {
         processes,
         channels: Vec::new(alloc),
@@ -40,21 +40,26 @@ fn instrs(alloc: Global) -> Result<Vec<Instr>, Memory> {
     Ok(Vec::from_slice(alloc, &instrs)?)
 }
 
+fn processes(alloc: Global) -> Result<Vec<ProcessCode>, Memory> {
+    let mut processes = only(alloc, process(alloc, 0))?;
+    processes.push(process(alloc, 2))?;
+    Ok(processes)
+}
+
 // A process that prints `x 1`, and two instructions that name what is not there.
 fn small_code(alloc: Global) -> Result<Code, Memory> {
-    let mut processes = Vec::new(alloc);
-    processes.push(process(alloc, 0))?;
-    processes.push(process(alloc, 2))?;
-    let mut texts = Vec::new(alloc);
-    texts.push(Text::from_slice(alloc, b"x")?)?;
+    let instrs = instrs(alloc)?;
+    let processes = processes(alloc)?;
+    let texts = only_text(alloc, b"x")?;
+    let names = names_of_one(alloc)?;
     Ok(Code {
         edition: Edition::First,
-        instrs: instrs(alloc)?,
+        instrs,
         processes,
         blocks: Vec::new(alloc),
         channels: Vec::new(alloc),
         texts,
-        names: names_of_one(alloc)?,
+        names,
     })
 }
 

@@ -1,8 +1,10 @@
 //! A turn and an ending, read through small implementations of the traits.
 
-ghost use Rattle.std.specs.Prelude.{◌≡◌, ℕ, ℤ, ◌<◌, [], ◌∷◌, length, IfOk};
-ghost use Rattle.rb_trace.specs.Fitting.{Fits};
+ghost use Rattle.std.specs.Prelude.{◌≡◌, ℕ, ℤ, ◌<◌, [], ◌∷◌, codes, length, None, IfOk};
+ghost use Rattle.std.specs.List.{AllZip};
+ghost use Rattle.rb_trace.specs.Fitting.{Fits, ProcessFits};
 
+use crate::names::{only, only_text};
 use crate::samples::{Ended, Queue};
 use arrayvec::ArrayVec;
 use rb_base::names::{ProcessNames, Variable};
@@ -13,22 +15,38 @@ use std::alloc::Global;
 use std::marker::{Brand, PhantomData};
 use std::sync::ledger::{Blank, Ledger};
 
-// A process `p` with a variable `x`, and a channel `c`.
+// A variable `x`.
+fn variables_of_one(alloc: Global) -> Result<Vec<Variable>, Memory>
+    ensures { IfOk result (λ variables. variables.items ≡ record { name = codes "x"; at = 0; size = None } ∷ []) }
+{
+    let name = Text::from_slice(alloc, b"x")?;
+    only(
+        alloc,
+        Variable {
+            name,
+            at: 0,
+            size: None,
+        },
+    )
+}
+
+// A process `p` with this variable.
+fn processes_of_one(alloc: Global) -> Result<Vec<ProcessNames>, Memory>
+    ensures one { IfOk result (λ processes. length processes.items ≡ 1) }
+    ensures fit { IfOk result (λ processes. (word : ℤ) → AllZip ProcessFits processes.items ((word ∷ []) ∷ [])) }
+{
+    let variables = variables_of_one(alloc)?;
+    let name = Text::from_slice(alloc, b"p")?;
+    only(alloc, ProcessNames { name, variables })
+}
+
+// This process, and a channel `c`.
 fn names_of_one(alloc: Global) -> Result<Names, Memory>
     ensures one { IfOk result (λ names. length names.processes.items ≡ 1) }
     ensures fits { IfOk result (λ names. (word : ℤ) → Fits names ((word ∷ []) ∷ []) (3 ∷ []) (1 ∷ [])) }
 {
-    let name = Text::from_slice(alloc, b"p")?;
-    let mut variables = Vec::new(alloc);
-    variables.push(Variable {
-        name: Text::from_slice(alloc, b"x")?,
-        at: 0,
-        size: None,
-    })?;
-    let mut processes = Vec::new(alloc);
-    processes.push(ProcessNames { name, variables })?;
-    let mut channels = Vec::new(alloc);
-    channels.push(Text::from_slice(alloc, b"c")?)?;
+    let processes = processes_of_one(alloc)?;
+    let channels = only_text(alloc, b"c")?;
     Ok(Names {
         processes,
         channels,
@@ -58,24 +76,56 @@ fn last_turn() -> Report {
     }
 }
 
-#[test]
-fn writes_a_turn_and_an_ending(rt: HostRuntime) {
-    let alloc = rt.alloc();
-    let names = names_of_one(alloc).expect(&rt, "memory");
-    let mut queue = Queue::new(alloc, &[b"x 1"], 0).expect(&rt, "memory");
-    let mut out = MemorySink::new(alloc, 128, Vec::new(alloc)).expect(&rt, "memory");
-    assert!(rt; write_report(&mut out, 2, &last_turn(), &names, &mut queue).is_ok());
-    // Three values were sent on the channel, and one was taken.
-    let end = Ended::<Brand> {
+// Three values were sent on the channel, and one was taken.
+fn end_of_one<L: Ledger>() -> Ended<L>
+    ensures sent { result.sent ≡ 3 }
+    ensures taken { result.taken ≡ 1 }
+{
+    Ended {
         state: State::Done,
         word: -1,
         sent: 3,
         taken: 1,
         ledger: PhantomData,
-    };
-    assert!(rt; write_both(Blank::new(1), &mut out, &names, &end));
-    assert!(rt;
-        out.bytes()
-            == b"2 out p x 1\n2 done p\nend 2\np done\np.x = -1\nc sent 3 taken 1\np.x = -1\nc sent 3 taken 1\n".as_slice()
-    );
+    }
+}
+
+// Whether the turn is written, with what the process printed before it.
+fn write_turn(alloc: Global, out: &mut MemorySink, names: &Names) -> bool
+    requires { length names.now.processes.items ≡ 1 }
+{
+    match Queue::new(alloc, &[b"x 1"], 0) {
+        Ok(mut queue) => write_report(out, 2, &last_turn(), names, &mut queue).is_ok(),
+        Err(_) => false,
+    }
+}
+
+fn write_all<L: Ledger>(alloc: Global, blank: Blank, out: &mut MemorySink) -> bool
+    requires name { blank.name ≡ L.name }
+    requires parts { blank.parts ≡ L.parts }
+    requires backed { 0 < blank.parts }
+{
+    match names_of_one(alloc) {
+        Ok(names) => {
+            write_turn(alloc, out, &names) && write_both(blank, out, &names, &end_of_one::<L>())
+        }
+        Err(_) => false,
+    }
+}
+
+const WRITTEN: &[u8] =
+    b"2 out p x 1\n2 done p\nend 2\np done\np.x = -1\nc sent 3 taken 1\np.x = -1\nc sent 3 taken 1\n";
+
+fn is_written(alloc: Global) -> bool {
+    match MemorySink::new(alloc, 128, Vec::new(alloc)) {
+        Ok(mut out) => {
+            write_all::<Brand>(alloc, Blank::new(1), &mut out) && out.bytes() == WRITTEN
+        }
+        Err(_) => false,
+    }
+}
+
+#[test]
+fn writes_a_turn_and_an_ending(rt: HostRuntime) {
+    assert!(rt; is_written(rt.alloc()));
 }

@@ -3,7 +3,7 @@ use Rattle.std.proofs.lemmas.Result.{IfOk-weaker}
 use Rattle.rb_domino.specs.declared.analysis.Analysis.{Analysis}
 use Rattle.rb_domino.specs.Recovery.{outcome_of}
 use Rattle.rb_domino.specs.RecoveryLine.{IsRecovered, recovery_line}
-use Rattle.rb_domino.proofs.Orderly.{few_named}
+use Rattle.rb_domino.proofs.Orderly.{orderly, few_named}
 use Rattle.rb_domino.proofs.theorem.Whole.{recovered}
 use Rattle.rb_domino.proofs.analysis.analyse.Goals as goal
 
@@ -40,3 +40,6 @@ returns-clause-work g c =
       c.analyse_on.ensures.work,
       ap length c.lines-lines.ensures.lines,
     )
+
+pub new-requires-clause-orderly : goal.new-requires-clause-orderly
+new-requires-clause-orderly g c = orderly c.lines-lines.ensures.whole.history

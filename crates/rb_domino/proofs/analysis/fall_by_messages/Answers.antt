@@ -42,3 +42,11 @@ returns-clause-falls g c =
     let none : c.args.most - c.loop-round._round ≡ 0 = omega arith in
     falls_on_all story (falls_by_messages story c.args.most (left_on c.args.board.now)) (c.args.most - c.loop-round._round)
     c.args.drops.now.items c.loop-round.drops.items c.loop-round.board c.loop-round.invariant.falls none
+
+pub returns-in_default-clause-work : goal.returns-in_default-clause-work
+returns-in_default-clause-work g c =
+    omega (arith, c.loop-round-test.true, c.loop-round.invariant.work, c.tick.ensures, c.next_fall.ensures.work)
+
+pub returns-in_err-fall-clause-work : goal.returns-in_err-fall-clause-work
+returns-in_err-fall-clause-work g c =
+    omega (arith, c.loop-round-test.true, c.loop-round.invariant.work, c.tick.ensures, c.next_fall.ensures.work, c.fall.ensures.work)

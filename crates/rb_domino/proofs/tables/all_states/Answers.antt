@@ -1,4 +1,4 @@
-use Rattle.std.proofs.Common.{◌≡◌, ℕ, ◌≤◌, ◌<◌, [], List, Vec, Global, length, vec_len, get_or, replicate, refl, sym, ◌∙◌, subst, arith}
+use Rattle.std.proofs.Common.{◌≡◌, ℕ, ◌≤◌, ◌<◌, [], List, Vec, Global, length, vec_len, get_or, replicate, refl, sym, ◌∙◌, subst, arith, ◌-◌, drop, length-take}
 use Rattle.std.proofs.lemmas.List.{length-map}
 use Rattle.std.proofs.lemmas.Grind.{common_steps}
 use Rattle.rb_domino.specs.declared.line.Line.{Line}
@@ -59,3 +59,17 @@ pub returns-clause-work : goal.returns-clause-work
 returns-clause-work g c =
     let counted : vec_len c.loop-rest.states ≡ length c.args.history.now.processes = stacks_long c.loop-rest.states _ c.loop-rest.invariant.stacking.counted in
     omega (arith, c.add_now.ensures.work, c.loop-rest.invariant.work, counted)
+
+pub bounds-rest-0 : goal.bounds-rest-0
+bounds-rest-0 g c = c.in-len1-up.len_at_least
+
+pub slice_bounds-after-start : goal.slice_bounds-after-start
+slice_bounds-after-start g c = c.in-len1-up.len_at_least
+
+pub slice_bounds-after-count : goal.slice_bounds-after-count
+slice_bounds-after-count g c = c.in-len1-up.len_at_least
+
+pub loop-rest-smaller : goal.loop-rest-smaller
+loop-rest-smaller g c =
+    let rest = c.loop-rest.rest.now in
+    omega (arith, length-take (length rest - 1) (drop 1 rest), c.in-len1-up.len_at_least)

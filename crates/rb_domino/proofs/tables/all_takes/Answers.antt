@@ -1,4 +1,4 @@
-use Rattle.std.proofs.Common.{◌≡◌, ℕ, ◌<◌, ◌++◌, ◌∷◌, [], List, Option, None, length, vec_len, get_or, replicate, refl, ap, ◌∙◌, sym, subst, arith}
+use Rattle.std.proofs.Common.{◌≡◌, ℕ, ◌<◌, ◌++◌, ◌∷◌, [], List, Option, None, length, vec_len, get_or, replicate, refl, ap, ◌∙◌, sym, subst, arith, ◌-◌, drop, length-take}
 use Rattle.std.proofs.lemmas.List.{replicate_more}
 use Rattle.rb_domino.specs.declared.line.Line.{Line}
 use Rattle.rb_domino.specs.declared.line.Message.{Message}
@@ -69,3 +69,17 @@ returns-clause-all g c = c.loop-rest.takes.ok.0 ∙ c.loop-rest.invariant.taking
 
 pub returns-clause-work : goal.returns-clause-work
 returns-clause-work g c = omega (arith, c.loop-rest.invariant.work, c.loop-rest.invariant.taking.all)
+
+pub bounds-rest-0 : goal.bounds-rest-0
+bounds-rest-0 g c = c.in-len1-up.len_at_least
+
+pub slice_bounds-after-start : goal.slice_bounds-after-start
+slice_bounds-after-start g c = c.in-len1-up.len_at_least
+
+pub slice_bounds-after-count : goal.slice_bounds-after-count
+slice_bounds-after-count g c = c.in-len1-up.len_at_least
+
+pub loop-rest-smaller : goal.loop-rest-smaller
+loop-rest-smaller g c =
+    let rest = c.loop-rest.rest.now in
+    omega (arith, length-take (length rest - 1) (drop 1 rest), c.in-len1-up.len_at_least)

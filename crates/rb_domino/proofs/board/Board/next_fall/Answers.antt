@@ -1,6 +1,6 @@
 use Rattle.std.proofs.Common.{◌≡◌, ℕ, ◌+◌, ◌≤◌, ◌<◌, Bool, true, length, btree_set_len, List, [], Vec, Global, get_or, Some, refl, ap, sym, ◌∙◌, subst, arith}
 use Rattle.std.specs.Bool.{if◌then◌else◌}
-use Rattle.std.proofs.lemmas.Option.{get_or_from_slice_get}
+use Rattle.std.proofs.lemmas.Option.{get_or_from_slice_get, slice_get_within}
 use Rattle.std.proofs.lemmas.Grind.{common_steps}
 use Rattle.rb_domino.specs.declared.state.State.{State}
 use Rattle.rb_domino.specs.declared.line.Message.{Message}
@@ -149,3 +149,12 @@ bounds-messages-m g c = grind (arith, common_steps)
 
 pub bounds-messages-m-in-Take : goal.bounds-messages-m-in-Take
 bounds-messages-m-in-Take g c = grind (arith, common_steps)
+
+pub bounds : goal.bounds
+bounds g c =
+    let pending = c.loop-taken.self.pending in
+    let taken = c.in-Some.taken in
+    let least : IsLeast pending taken = least_first pending c.first.result taken c.in-Some.ensures c.first.ensures.member c.first.ensures.least in
+    let pends = c.loop-taken.invariant.holds.split.sound taken least.here in
+    subst (λ (ls : List Line). taken < length ls) (sym c.lines.ensures.lines)
+    (slice_get_within c.args.history.now.lines taken (Take pends.message) pends.is_taken)

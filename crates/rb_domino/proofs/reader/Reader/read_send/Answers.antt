@@ -40,3 +40,12 @@ returns-clause-takes c =
     ∙ ap (λ o. if_known H2 o (λ q. cond (is_some (message_of story name)) (Err H3) (Ok (sends story name p q)))) known_to
     ∙ ap (λ o. cond (is_some o) (Err H3) (Ok (sends story name p q))) unknown) refl in
     subst (λ t. Takes t c.add_message.new.self c.add_message.result) (sym told) c.add_message.ensures.takes
+
+pub add_message-requires-clause-few : goal.add_message-requires-clause-few
+add_message-requires-clause-few c = c.requires.few
+
+pub add_message-requires-clause-stands : goal.add_message-requires-clause-stands
+add_message-requires-clause-stands c = c.requires.stands
+
+pub returns-clause-grows : goal.returns-clause-grows
+returns-clause-grows c = c.add_message.ensures.grows

@@ -1,10 +1,9 @@
-use Rattle.std.proofs.Common.{◌≡◌, ℕ, Bool, List, ◌∷◌, [], false, true, cond, codes, nat_eq, Result, Err, sym, ap, ◌∙◌, subst}
-use Rattle.std.specs.Cmp.Lexicographic.{pointwise}
+use Rattle.std.proofs.Common.{◌≡◌, ℕ, Bool, List, ◌∷◌, [], false, true, cond, Result, Err, sym, ap, ◌∙◌, subst}
 use Rattle.rb_base.specs.declared.fault.FaultName.{FaultName}
 use Rattle.rb_base.specs.declared.fault.FaultName.TheVariants.{H1}
 use Rattle.rb_domino.specs.declared.reader.LineRefusal.{LineRefusal}
 use Rattle.rb_domino.specs.declared.reader.Reader.{Reader}
-use Rattle.rb_domino.specs.History.{Story, before_failure, is_short_name, is_word, read_fail, read_point, read_process, read_take, read_two, read_words}
+use Rattle.rb_domino.specs.History.{Story, before_failure, is_short_name, read_fail, read_point, read_process, read_take, read_two, read_words}
 use Rattle.rb_domino.specs.Reading.{Takes, story_of}
 use Rattle.rb_domino.proofs.reader.Reader.read_two.Goals as goal
 
@@ -15,11 +14,6 @@ holds b x y is = ap (λ test. cond test x y) is
 fails : {X : Type 0} (b : Bool) (x y : X) → b ≡ false → cond b x y ≡ y
 fails b x y is = ap (λ test. cond test x y) is
 
--- a verb was compared
-compared : (word verb bytes : List ℕ) (same told : Bool) → bytes ≡ word → same ≡ pointwise nat_eq verb bytes → same ≡ told
-    → is_word word verb ≡ told
-compared word verb bytes same told is by_eq was = ap (pointwise nat_eq verb) (sym is) ∙ sym by_eq ∙ was
-
 -- a line of two words was taken as one that its verb tells
 taken_as : (story : Story) (verb name : List ℕ) (told : Result Story FaultName) (new : Reader) (r : Result (Unit {0}) LineRefusal) (short : Bool)
     → short ≡ is_short_name name → short ≡ true → read_two story verb name ≡ told → Takes (before_failure story told) new r
@@ -28,58 +22,94 @@ taken_as story verb name told new r short is so as_told takes =
     subst (λ t. Takes t new r)
     (sym (holds (is_short_name name) (before_failure story (read_two story verb name)) (Err H1) (sym is ∙ so) ∙ ap (before_failure story) as_told)) takes
 
-pub returns-then-eq-clause-takes : goal.returns-then-eq-clause-takes
-returns-then-eq-clause-takes c =
+pub returns-then-is_word-clause-takes : goal.returns-then-is_word-clause-takes
+returns-then-is_word-clause-takes c =
     let story = story_of c.args.self.now in
     let verb = c.args.verb.now in
     let name = c.args.name.now in
-    let is_process = compared (codes "process") verb _ _ true c.as_slice.ensures c.eq.ensures c.if-eq.true in
+    let is_process = sym c.is_word.ensures ∙ c.if-is_word.true in
     taken_as story verb name (read_process story name) c.read_process.new.self c.read_process.result c.is_short_name.result
     c.is_short_name.ensures c.if-not-is_short_name.false (holds _ _ _ is_process) c.read_process.ensures.takes
 
-pub returns-then-eq-2-clause-takes : goal.returns-then-eq-2-clause-takes
-returns-then-eq-2-clause-takes c =
+pub returns-then-is_word-2-clause-takes : goal.returns-then-is_word-2-clause-takes
+returns-then-is_word-2-clause-takes c =
     let story = story_of c.args.self.now in
     let verb = c.args.verb.now in
     let name = c.args.name.now in
-    let no_process = compared (codes "process") verb _ _ false c.as_slice.ensures c.eq.ensures c.if-eq.false in
-    let is_point = compared (codes "point") verb _ _ true c.as_slice-else-eq.ensures c.eq-else-eq.ensures c.if-eq-2.true in
+    let no_process = sym c.is_word.ensures ∙ c.if-is_word.false in
+    let is_point = sym c.is_word-else-is_word.ensures ∙ c.if-is_word-2.true in
     taken_as story verb name (read_point story name) c.read_point.new.self c.read_point.result c.is_short_name.result
     c.is_short_name.ensures c.if-not-is_short_name.false (fails _ _ _ no_process ∙ holds _ _ _ is_point) c.read_point.ensures.takes
 
-pub returns-then-eq-3-clause-takes : goal.returns-then-eq-3-clause-takes
-returns-then-eq-3-clause-takes c =
+pub returns-then-is_word-3-clause-takes : goal.returns-then-is_word-3-clause-takes
+returns-then-is_word-3-clause-takes c =
     let story = story_of c.args.self.now in
     let verb = c.args.verb.now in
     let name = c.args.name.now in
-    let no_process = compared (codes "process") verb _ _ false c.as_slice.ensures c.eq.ensures c.if-eq.false in
-    let no_point = compared (codes "point") verb _ _ false c.as_slice-else-eq.ensures c.eq-else-eq.ensures c.if-eq-2.false in
-    let is_take = compared (codes "take") verb _ _ true c.as_slice-else-eq-2.ensures c.eq-else-eq-2.ensures c.if-eq-3.true in
+    let no_process = sym c.is_word.ensures ∙ c.if-is_word.false in
+    let no_point = sym c.is_word-else-is_word.ensures ∙ c.if-is_word-2.false in
+    let is_take = sym c.is_word-else-is_word-2.ensures ∙ c.if-is_word-3.true in
     taken_as story verb name (read_take story name) c.read_take.new.self c.read_take.result c.is_short_name.result
     c.is_short_name.ensures c.if-not-is_short_name.false (fails _ _ _ no_process ∙ fails _ _ _ no_point ∙ holds _ _ _ is_take)
     c.read_take.ensures.takes
 
-pub returns-then-eq-4-clause-takes : goal.returns-then-eq-4-clause-takes
-returns-then-eq-4-clause-takes c =
+pub returns-then-is_word-4-clause-takes : goal.returns-then-is_word-4-clause-takes
+returns-then-is_word-4-clause-takes c =
     let story = story_of c.args.self.now in
     let verb = c.args.verb.now in
     let name = c.args.name.now in
-    let no_process = compared (codes "process") verb _ _ false c.as_slice.ensures c.eq.ensures c.if-eq.false in
-    let no_point = compared (codes "point") verb _ _ false c.as_slice-else-eq.ensures c.eq-else-eq.ensures c.if-eq-2.false in
-    let no_take = compared (codes "take") verb _ _ false c.as_slice-else-eq-2.ensures c.eq-else-eq-2.ensures c.if-eq-3.false in
-    let is_fail = compared (codes "fail") verb _ _ true c.as_slice-else-eq-3.ensures c.eq-else-eq-3.ensures c.if-eq-4.true in
+    let no_process = sym c.is_word.ensures ∙ c.if-is_word.false in
+    let no_point = sym c.is_word-else-is_word.ensures ∙ c.if-is_word-2.false in
+    let no_take = sym c.is_word-else-is_word-2.ensures ∙ c.if-is_word-3.false in
+    let is_fail = sym c.is_word-else-is_word-3.ensures ∙ c.if-is_word-4.true in
     taken_as story verb name (read_fail story name) c.read_fail.new.self c.read_fail.result c.is_short_name.result
     c.is_short_name.ensures c.if-not-is_short_name.false
     (fails _ _ _ no_process ∙ fails _ _ _ no_point ∙ fails _ _ _ no_take ∙ holds _ _ _ is_fail) c.read_fail.ensures.takes
 
-pub returns-else-eq-4-clause-takes : goal.returns-else-eq-4-clause-takes
-returns-else-eq-4-clause-takes c =
+pub returns-else-is_word-4-clause-takes : goal.returns-else-is_word-4-clause-takes
+returns-else-is_word-4-clause-takes c =
     let story = story_of c.args.self.now in
     let verb = c.args.verb.now in
     let name = c.args.name.now in
-    let no_process = compared (codes "process") verb _ _ false c.as_slice.ensures c.eq.ensures c.if-eq.false in
-    let no_point = compared (codes "point") verb _ _ false c.as_slice-else-eq.ensures c.eq-else-eq.ensures c.if-eq-2.false in
-    let no_take = compared (codes "take") verb _ _ false c.as_slice-else-eq-2.ensures c.eq-else-eq-2.ensures c.if-eq-3.false in
-    let no_fail = compared (codes "fail") verb _ _ false c.as_slice-else-eq-3.ensures c.eq-else-eq-3.ensures c.if-eq-4.false in
+    let no_process = sym c.is_word.ensures ∙ c.if-is_word.false in
+    let no_point = sym c.is_word-else-is_word.ensures ∙ c.if-is_word-2.false in
+    let no_take = sym c.is_word-else-is_word-2.ensures ∙ c.if-is_word-3.false in
+    let no_fail = sym c.is_word-else-is_word-3.ensures ∙ c.if-is_word-4.false in
     holds _ _ _ (sym c.is_short_name.ensures ∙ c.if-not-is_short_name.false)
     ∙ ap (before_failure story) (fails _ _ _ no_process ∙ fails _ _ _ no_point ∙ fails _ _ _ no_take ∙ fails _ _ _ no_fail)
+
+pub read_process-requires-clause-few : goal.read_process-requires-clause-few
+read_process-requires-clause-few c = c.requires.few
+
+pub read_process-requires-clause-stands : goal.read_process-requires-clause-stands
+read_process-requires-clause-stands c = c.requires.stands
+
+pub read_point-requires-clause-few : goal.read_point-requires-clause-few
+read_point-requires-clause-few c = c.requires.few
+
+pub read_point-requires-clause-stands : goal.read_point-requires-clause-stands
+read_point-requires-clause-stands c = c.requires.stands
+
+pub read_take-requires-clause-few : goal.read_take-requires-clause-few
+read_take-requires-clause-few c = c.requires.few
+
+pub read_take-requires-clause-stands : goal.read_take-requires-clause-stands
+read_take-requires-clause-stands c = c.requires.stands
+
+pub read_fail-requires-clause-few : goal.read_fail-requires-clause-few
+read_fail-requires-clause-few c = c.requires.few
+
+pub read_fail-requires-clause-stands : goal.read_fail-requires-clause-stands
+read_fail-requires-clause-stands c = c.requires.stands
+
+pub returns-then-is_word-clause-grows : goal.returns-then-is_word-clause-grows
+returns-then-is_word-clause-grows c = c.read_process.ensures.grows
+
+pub returns-then-is_word-2-clause-grows : goal.returns-then-is_word-2-clause-grows
+returns-then-is_word-2-clause-grows c = c.read_point.ensures.grows
+
+pub returns-then-is_word-3-clause-grows : goal.returns-then-is_word-3-clause-grows
+returns-then-is_word-3-clause-grows c = c.read_take.ensures.grows
+
+pub returns-then-is_word-4-clause-grows : goal.returns-then-is_word-4-clause-grows
+returns-then-is_word-4-clause-grows c = c.read_fail.ensures.grows
