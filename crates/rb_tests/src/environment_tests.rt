@@ -1,9 +1,9 @@
 //! Tests of the variables of a process in a plain run (rb_walk): their frames, their words, and copies.
 
-use rb_base::Place;
+use rb_base::{Memory, Place};
 use rb_syntax::{Name, Number, Var};
 use rb_walk::environment::Environment;
-use std::alloc::{AllocError, Global};
+use std::alloc::Global;
 
 const PLACE: Place = Place { line: 1, column: 1 };
 
@@ -98,7 +98,7 @@ fn copy_stands_alone(alloc: Global, environment: &mut Environment) -> bool {
 }
 
 // A variable and an array, as they begin.
-fn outermost(alloc: Global) -> Result<Environment, AllocError> {
+fn outermost(alloc: Global) -> Result<Environment<'static>, Memory> {
     Environment::new(alloc, &[scalar(b"x"), array(b"row", 2)])
 }
 
