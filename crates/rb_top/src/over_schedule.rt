@@ -105,7 +105,9 @@ fn read_schedule<F: Shelf, S: Sink>(
     }
 }
 
-// The schedule was read.
+// The schedule was read. A call of its own, as the loop over turns stands in it: beside the reading of files a turn takes an
+// instruction more.
+#[inline(never)]
 fn over_schedule<S: Sink>(
     alloc: Global,
     product: Product,
