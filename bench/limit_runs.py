@@ -69,6 +69,7 @@ NUMBERS = [
     ("program a; process p { var x; x := ", str, "; } end.", 9_223_372_036_854_775_807, "refused X3 at 1:"),
     ("edition 2; program a; process p { print (sum i from 1 to ", str, " : i); } end.", 1_024, "1 error p range\n"),
     ("program a; process p { procedure f(n) { if n > 0 { call f(n - 1); } } call f(", str, "); } end.", 255, "513 error p calls\n"),
+    ("program a; process p { var a[1024]; var x; ensure 1 within 9 by { var b[", str, "]; } else error; } end.", 1_023, "2 reject p ensure 1 1 stack\n"),
     ("program a; process p { procedure f(n) { var a[1000]; if n > 0 { call f(n - 1); } } call f(", str, "); } end.", 1, "5 error p stack\n"),
 ]
 DEPTHS = [
@@ -238,6 +239,42 @@ def cuts():
     yield Run("not cut", ["check", "a"], {"a": CUT}, 0, "accepted\n")
 
 
+def trials():
+    """Trials of the numbers 0 to 99, the texts of which are accepted, and of larger ones: each round has 60 turns of a process, and 8 more for each process."""
+    for number in [*range(100), 1_549, 18_446_744_073_709_551_615]:
+        processes, rounds = 2 + number % 31, 1 + number // 31 % 50
+        turns = processes * rounds * (60 + 8 * processes)
+        yield Run(f"trial {number}", ["trial", str(number)], {}, 0, Parts(begins=f"trial {number}\nprocesses {processes}\nturns {turns}\nout "))
+
+
+def record(turns):
+    """A record in which process p takes all turns up to this one."""
+    return "".join(f"{turn} p\n" for turn in range(1, turns + 1))
+
+
+def deepest():
+    """A process with as many levels, words and channels as there can be, which goes back to the fourth level; as many open calls in a run as in a
+    plain run, and the longest sum and record."""
+    channels = "".join(f"channel c{n} from p to q size 1; " for n in range(64))
+    entries = "".join(f'\nensure 1 within 9999 by {{ d[1023] := {n}; print "line"; ' for n in range(1, 33))
+    again = '} else by { print "again", d[1023]; '
+    ends = "".join(f"{again if n == 4 else ''}}} else error; " for n in range(32, 0, -1))
+    variables = "var a[1024]; var b[1024]; var c[1024]; var d[1024];"
+    source = f"edition 2; program g; {channels}process q {{ }} process p {{ {variables} {entries}fail; {ends}}} end."
+    back = "129 reject p ensure 33 1 fail\n" + "".join(f"129 reject p ensure {n + 1} 1 inner\n" for n in range(31, 3, -1))
+    lines = "135 out p line\n" * 3 + "135 out p again 3\n135 done p\nend 135\n"
+    yield Run("32 levels over 4,096 words and 64 channels", RUN_WORDS, {"a": source, "b": "p 135"}, 0, Parts(f"0 done q\n{back}{lines}", " 0 3\nc0 sent 0 taken 0\n", "c63 sent 0 taken 0\n"))
+    calls = "program a; process p { procedure f(n) { if n > 0 { call f(n - 1); } } call f(255); } end."
+    yield Run("the most open calls of a plain run", ["plain", "a", "b"], {"a": calls, "b": record(512)}, 0, "")
+    sum_of = "program a; process p { var x; x := 1" + " + x" * 200_000 + "; } end."
+    yield Run("the longest sum", ["check", "a"], {"a": sum_of}, 0, "accepted\n")
+    turns = 126_000
+    waits = f"program a; process p {{ var i; while i < {turns // 2} {{ i := i + 1; }} print i; }} end."
+    yield Run("a long record", ["plain", "a", "b"], {"a": waits, "b": record(turns + 2)}, 0, Parts(begins=f"{turns + 2} out p {turns // 2}\n"))
+    both = "program a; process p { while 1 { } } process q { while 1 { } } end."
+    yield Run("the most turns of two", RUN_WORDS, {"a": both, "b": "all 400000\np 200000"}, 0, "end 1000000\np open 0\nq open 0\n")
+
+
 def longest_pages():
     """A page of the most bytes, and one with a byte more, which is refused."""
     files = {"a": "c" * MOST, "b": EMPTY, "c": "p 1"}
@@ -247,5 +284,5 @@ def longest_pages():
 
 def made_runs():
     """All of them."""
-    for runs in (limits, largest, longest_files, longest_pages, conversations, listings, no_commands, cuts):
+    for runs in (limits, largest, longest_files, longest_pages, conversations, listings, no_commands, cuts, trials, deepest):
         yield from runs()

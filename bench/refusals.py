@@ -40,18 +40,31 @@ REFUSED = {
 }
 
 
-def ended(words, folder, refuse=None, number=0, shim=None):
-    """How a command ended; with one call refused, if one is named."""
+# Small files, which are read and written one byte at a time, and the commands over them.
+SMALL = {
+    "a": 'program a; process p { var x; x := 1; print "x", x; } end.',
+    "b": "p 2",
+    "r": "1 p\n2 p",
+    "s": "show p\nstep 2\nshow p",
+    "h": "process p\npoint p\nfail p",
+}
+BYTEWISE = ["run a b", "survive a b", "plain a r", "check a", "code a", "stuck a b", "session a b s", "domino h", "compile a", "trial 0", "run a a", "go"]
+
+
+def ended(words, folder, refuse=None, number=0, shim=None, piece=None):
+    """How a command ended; with one call refused, if one is named, and with so many bytes at most in each call."""
     env = dict(os.environ)
     if refuse:
         env.update(LD_PRELOAD=shim, REFUSE=refuse, REFUSED=str(number))
+    if piece:
+        env["PIECE"] = str(piece)
     program = VIEWER if words[0] in VIEWS else PROGRAM
     return subprocess.run([program, *words], cwd=folder, env=env, capture_output=True, timeout=60)
 
 
-def answer(words, folder, refuse=None, number=0, shim=None):
+def answer(words, folder, refuse=None, number=0, shim=None, piece=None):
     """The status of a command, and what it wrote."""
-    run = ended(words, folder, refuse, number, shim)
+    run = ended(words, folder, refuse, number, shim, piece)
     return run.returncode, run.stdout
 
 
@@ -144,6 +157,34 @@ def refused_texts(folder, shim):
             yield name, refuse, *reason_refused_in_turn(words, folder, refuse, shim)
 
 
+def bytes_refused_in_turn(words, folder, refuse, shim):
+    """How many of the calls that each move one byte were refused until none was left, and the first that was answered wrongly, if there is one."""
+    whole = answer(words, folder)
+    for number in range(100_000):
+        told = answer(words, folder, refuse, number, shim, 1)
+        if told == whole:
+            return number, None
+        if told != (STATUS[refuse], whole[1][:number] if refuse == "write" else b""):
+            return number, f"{refuse} {number} of one byte: status {told[0]}, {len(told[1])} bytes"
+    return 0, "no end"
+
+
+def bytewise(folder, shim):
+    """What was refused of the commands over small files, and the first wrong answer: each byte that is written is one call, and each that is
+    read, with one more at the end of each file."""
+    for file, text in SMALL.items():
+        with open(os.path.join(folder, file), "w", encoding="ascii") as out:
+            out.write(text)
+    for line in BYTEWISE:
+        words = line.split()
+        written = len(answer(words, folder)[1])
+        read = sum(len(SMALL[word]) + 1 for word in words[1:] if word in SMALL)
+        # (what is read again for a reason comes behind the answer)
+        for refuse, calls in [("write", written), *([("read", read)] if line != "run a a" else [])]:
+            number, fault = bytes_refused_in_turn(words, folder, refuse, shim)
+            yield line, refuse, number, fault or (None if number == calls else f"{number} calls, and not {calls}")
+
+
 def same_for_longer_runs(folder, shim):
     """The first number at which nothing is refused is the same for a short and for a longer run."""
     shutil.copy(os.path.join(ROOT, "bench/nested.rbl"), os.path.join(folder, "a"))
@@ -189,6 +230,10 @@ def main():
             counted[refuse] += number
             if fault:
                 wrong.append(f"{name}: {fault}")
+        for name, refuse, number, fault in bytewise(folder, shim):
+            counted[refuse] += number
+            if fault:
+                wrong.append(f"{name}, byte by byte: {fault}")
         short, long = same_for_longer_runs(folder, shim)
         if short != long:
             wrong.append(f"a run of 10 rounds takes memory {short} times, one of 23 {long} times")

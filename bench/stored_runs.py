@@ -18,7 +18,7 @@ sys.dont_write_bytecode = True
 from limit_runs import Parts, Run, made_runs
 
 ROOT = os.path.dirname(os.path.dirname(os.path.abspath(__file__)))
-LEAST = 765
+LEAST = 909
 
 
 def programs(name):

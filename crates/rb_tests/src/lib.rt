@@ -1,23 +1,26 @@
-//! Tests of the top call, and of crates below that take long to prove: each crate here would be proved twice if its tests stood in it.
+//! Tests of what takes memory, at its limits, and of files and sinks: words, caches, slots, held lines, the table of conversations,
+//! trials and the parser. What the programs write is tested by runs of them (`bench/stored_runs.py`, `bench/refusals.py`).
 #![tactic(auto)]
 
 #[cfg(test)]
-mod calls;
+mod cache_tests;
 #[cfg(test)]
-mod command_tests;
+mod cell_tests;
 #[cfg(test)]
-mod environment_tests;
+mod conv_tests;
 #[cfg(test)]
-mod fault_tests;
+mod hold_tests;
 #[cfg(test)]
-mod judge_tests;
+mod host_tests;
+#[cfg(test)]
+mod mail_tests;
+#[cfg(test)]
+mod make_tests;
 #[cfg(test)]
 mod parse_rows;
 #[cfg(test)]
-mod process_tests;
-#[cfg(test)]
-mod record_tests;
+mod pieces;
 #[cfg(test)]
 mod rows;
 #[cfg(test)]
-mod trial_tests;
+mod sink_tests;

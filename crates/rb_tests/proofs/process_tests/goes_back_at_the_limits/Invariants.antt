@@ -1,4 +1,0 @@
-use Rattle.rb_tests.proofs.process_tests.goes_back_at_the_limits.Given as goal
-
-abbrev pub ghosts-at_the_limits : goal.ghosts-at_the_limits
-ghosts-at_the_limits g a = record { name = a.blank.name; parts = a.blank.parts }
