@@ -1,5 +1,5 @@
 //! Tests of what takes memory, at its limits, and of files and sinks: words, caches, slots, held lines, the table of conversations,
-//! trials and the parser. What the programs write is tested by runs of them (`bench/stored_runs.py`, `bench/refusals.py`).
+//! trials, the parser, and the listing of a code that no source has. What the programs write is tested by runs of them (`bench/stored_runs.py`, `bench/refusals.py`).
 #![tactic(auto)]
 
 #[cfg(test)]
@@ -13,9 +13,13 @@ mod hold_tests;
 #[cfg(test)]
 mod host_tests;
 #[cfg(test)]
+mod listing_tests;
+#[cfg(test)]
 mod mail_tests;
 #[cfg(test)]
 mod make_tests;
+#[cfg(test)]
+mod names;
 #[cfg(test)]
 mod parse_rows;
 #[cfg(test)]
