@@ -54,6 +54,22 @@ impl<'a> Schedule<'a> {
         })
     }
 
+    /// The schedule of a text that was read before, by how many turns it was found to have. The text is not read again.
+    pub fn counted(text: &'a [u8], names: &'a Names, turns: u32) -> Self
+        requires { (all : List ℕ) × (schedule_of (process_names names.now) text.now ≡ Ok all) × (turns ≡ length all) }
+        ensures turns { (all : List ℕ) → schedule_of (process_names names.now) text.now ≡ Ok all → result ≡ fresh all }
+        ensures known { AllByRecursion (λ p. p < vec_len names.now.processes) result.left }
+        ensures few { length result.left ≤ MOST_TURNS }
+    {
+        Schedule {
+            text,
+            names,
+            total: turns,
+            present: Rounds::none(),
+            rest: text,
+        }
+    }
+
     /// How many turns the whole text has.
     pub fn turns(&self) -> u32
         ensures all { result ≡ length self.now.all }
