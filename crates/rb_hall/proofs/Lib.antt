@@ -1,0 +1,5 @@
+pub mod Reading
+pub mod Driving
+pub mod Answering
+pub mod Complete
+pub mod Behind
