@@ -1,5 +1,5 @@
 -- What a session keeps, before its first turn, behind a turn more, and at another position.
-use Rattle.std.proofs.Common.{◌≡◌, ◌≤◌, ◌<◌, ◌+◌, ◌-◌, ◌^◌, ℕ, zero, suc, ℤ, pos, true, List, [], ◌∷◌, ◌++◌, length, map, take, drop, replicate, slice_get, slice_index_or, slice_range, get_or, nat_lt, option_map, unwrap_or, sum_by, count_by, Option, Some, None, refl, sym, ap, ◌∙◌, subst, subst₂, arith}
+use Rattle.std.proofs.Common.{◌≡◌, ◌≤◌, ◌<◌, ◌+◌, ◌-◌, ◌^◌, ℕ, zero, suc, ℤ, pos, true, false, List, [], ◌∷◌, ◌++◌, length, map, take, drop, replicate, slice_get, slice_index_or, slice_range, get_or, nat_lt, option_map, unwrap_or, sum_by, count_by, Option, Some, None, refl, sym, ap, ◌∙◌, subst, subst₂, arith}
 use Rattle.std.proofs.lemmas.List.{drop-append-le, length-append, length-drop, length-map, map-append, take-append-le, take_all}
 use Rattle.std.proofs.lemmas.Option.{slice_get-map, slice_get_within}
 use Rattle.std.proofs.Math.Seq.{drop-append_seam}
@@ -94,6 +94,7 @@ module _ (m : Seen) (ran : List ℕ) (stands : m ≡ machine_behind m.code m.gro
         let world : (turned m p).0 ≡ (word_run m.code m.groups (ran ++ p ∷ [])).0 =
         ap (λ (end : WordWorld × Told). end.0) turned_is ∙ sym (word_run_last m.code m.groups ran p) in
         let waiting : m.waiting ≡ replicate (length m.code.processes) [] = ap (λ (x : Seen). x.waiting) stands in
+        let keeps : m.keeps ≡ false = ap (λ (x : Seen). x.keeps) stands in
         let taken : m.taken + 1 ≡ length (ran ++ p ∷ []) = omega (arith, taken_is, length-append ran (p ∷ [])) in
         after
         ∙ (λ i. record {
@@ -101,6 +102,7 @@ module _ (m : Seen) (ran : List ℕ) (stands : m ≡ machine_behind m.code m.gro
           groups = m.groups;
           world = world i;
           waiting = waiting i;
+          keeps = keeps i;
           taken = taken i;
           most = m.most;
         })
@@ -326,7 +328,7 @@ kept_more m turning now shown later turns turn room more changes after most_chan
 
 -- before the first turn
 pub kept_first : (m : Seen) (c : Code) (groups : List Membership) (most : ℕ) (shown : Picture) (room most_changed : ℕ) → IsSoundFor c groups
-    → m ≡ opening_seen c groups most → most < 2 ^ 32 - 1 → most ≤ room
+    → m ≡ opening_seen c groups false most → most < 2 ^ 32 - 1 → most ≤ room
     → shown ≡ record { states = states_of m.world.processes; words = variables_of m.code m.world.processes }
     → most_changed ≡ length c.processes + words_of c → IsKept m shown [] room [] most_changed 0
 kept_first m c groups most shown room most_changed sound is few roomy shows changes =

@@ -1,5 +1,5 @@
 -- The journal of a session: the turns that were taken, each with what it changed.
-use Rattle.std.specs.Prelude.{◌≡◌, ◌≤◌, ◌<◌, ◌+◌, ◌-◌, ◌^◌, ℕ, List, length, map, take, slice_range, sum_by, count_by}
+use Rattle.std.specs.Prelude.{◌≡◌, ◌≤◌, ◌<◌, ◌+◌, ◌-◌, ◌^◌, ℕ, false, List, length, map, take, slice_range, sum_by, count_by}
 use Rattle.rb_world.specs.Kind.{Membership}
 use Rattle.rb_world.specs.Standing.{Each}
 use Rattle.rb_code.specs.Instructions.Plain.{Code, Part}
@@ -21,9 +21,9 @@ processes_of turns = map (λ (turn : Turn). turn.process) turns
 abbrev pub course_of : Seen → List Turn → ℕ → Course
 course_of m turns position = record { code = m.code; groups = m.groups; turns = m.most; ran = processes_of turns; position = position }
 
--- the machine behind these turns
+-- the machine behind these turns, which holds no links
 abbrev pub machine_behind : Code → List Membership → ℕ → List ℕ → Seen
-machine_behind c groups most ran = record (opening_seen c groups most) { world = (word_run c groups ran).0; taken = length ran }
+machine_behind c groups most ran = record (opening_seen c groups false most) { world = (word_run c groups ran).0; taken = length ran }
 
 -- what the run over these turns shows
 abbrev pub picture_after : Code → List Membership → List ℕ → Picture

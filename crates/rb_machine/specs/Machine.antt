@@ -1,5 +1,6 @@
 -- The machine as contracts see it: its code and its conversations, the world of the word machine that it stands for, the released lines
--- that wait, how many turns it has taken, and how many it may take.
+-- that wait, whether the links of kept turns are held, so that survivors may be asked for, how many turns it has taken, and how many it
+-- may take.
 use Rattle.std.specs.Prelude.{◌≡◌, ◌<◌, ◌≤◌, ◌+◌, ◌-◌, ◌^◌, ℕ, Bool, true, false, List, [], ◌∷◌, length, replicate, slice_get}
 use Rattle.rb_world.specs.Kind.{Membership}
 use Rattle.rb_world.specs.Turn.{Told, turn}
@@ -21,6 +22,7 @@ pub record Seen : Type 0 where
   pub groups : List Membership
   pub world : WordWorld
   pub waiting : List (List (List ℕ))
+  pub keeps : Bool
   pub taken : ℕ
   pub most : ℕ
 
@@ -30,6 +32,7 @@ seen c parts taken most = record {
   groups = memberships parts.table;
   world = world parts;
   waiting = lines_of parts.procs.items;
+  keeps = parts.links.held;
   taken = taken;
   most = most;
 }
@@ -49,12 +52,13 @@ pub record IsTied {L : Type 0} (c : Code) (parts : Parts L) (running : List Bool
   pub tallied : AreTallied (length (world parts).processes) resting.rests.items resting.changed resting.noted taken
 
 -- before the first turn
-abbrev pub opening_seen : Code → List Membership → ℕ → Seen
-opening_seen c groups most = record {
+abbrev pub opening_seen : Code → List Membership → Bool → ℕ → Seen
+opening_seen c groups keeps most = record {
   code = c;
   groups = groups;
   world = opening_of c groups;
   waiting = replicate (length c.processes) [];
+  keeps = keeps;
   taken = 0;
   most = most;
 }
@@ -87,5 +91,5 @@ HasRun old (p ∷ ps) all new =
 
 -- Over every list of turns a loaded machine comes to the world of the word machine, and tells what that tells.
 abbrev pub MachineIsWordMachine : Type 0
-MachineIsWordMachine = (c : Code) (groups : List Membership) (most : ℕ) (new : Seen) (ps : List ℕ) (all : List Told)
-    → HasRun (opening_seen c groups most) ps all new → (new.world, all) ≡ word_run c groups ps
+MachineIsWordMachine = (c : Code) (groups : List Membership) (keeps : Bool) (most : ℕ) (new : Seen) (ps : List ℕ) (all : List Told)
+    → HasRun (opening_seen c groups keeps most) ps all new → (new.world, all) ≡ word_run c groups ps

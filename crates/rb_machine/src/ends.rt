@@ -38,6 +38,7 @@ pub fn end_turn<L: Ledger>(
     ensures ended { Ends (plain code.now) turn p parts.old running.old.items moved parts.new running.new.items
         (told_of report.new.kind report.new.events.items (lines_of parts.new.procs.items)) result steps.old steps.new }
     ensures room { parts.old.links.room ≤ parts.new.links.room + links_yet moved }
+    ensures held { parts.new.links.held ≡ parts.old.links.held }
 {
     match moved {
         Move::Went => end(
@@ -174,6 +175,7 @@ fn come_in<L: Ledger>(
     ensures ended { Ends (plain code.now) turn p parts.old running.old.items (Move.Enters block) parts.new running.new.items
         (told_of report.new.kind report.new.events.items (lines_of parts.new.procs.items)) result steps.old steps.new }
     ensures room { parts.old.links.room ≤ parts.new.links.room + 1 }
+    ensures held { parts.new.links.held ≡ parts.old.links.held }
 {
     let came = enter(code, parts, turn, p, block, &mut report.events, steps);
     end(parts, running, p, came, report, steps)

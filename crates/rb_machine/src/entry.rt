@@ -62,6 +62,7 @@ pub fn enter<L: Ledger>(
     ensures took { result.quiet ≡ true → result.kind ≡ Took }
     ensures quiet { result.quiet ≡ true → IsQuiet result parts.new.procs.items p }
     ensures room { parts.old.links.room ≤ parts.new.links.room + 1 }
+    ensures held { parts.new.links.held ≡ parts.old.links.held }
     ensures work { steps.new
         ≤ steps.old + undoing result.kind (processes_of parts.old.procs.items) events.new.items (processes_of parts.new.procs.items) }
 {
@@ -144,6 +145,7 @@ fn open<L: Ledger>(
     ensures links { (one : Seen) → slice_get procs.old p ≡ Some one
         → links.new.items ≡ links.old.items ++ record { turn = turn; process = p; alternate = 0; before = one.process.state.last_kept } ∷ [] }
     ensures room { links.old.room ≤ links.new.room + 1 }
+    ensures held { links.new.held ≡ links.old.held }
 {
     let proc = &mut procs[p as usize];
     links.note(proc, turn, p, Wanted::Entry(block));

@@ -50,7 +50,7 @@ pub(crate) fn load_parts<L: Ledger>(
     requires none { links.items ≡ [] }
     requires room { turns ≤ links.room }
     ensures seen { IfOk result
-        (λ loaded. seen (plain code.now) loaded.parts 0 turns ≡ opening_seen (plain code.now) (memberships (opening nested.now)) turns) }
+        (λ loaded. seen (plain code.now) loaded.parts 0 turns ≡ opening_seen (plain code.now) (memberships (opening nested.now)) links.held turns) }
     ensures tied { IfOk result
         (λ loaded. IsTied (plain code.now) loaded.parts loaded.running.items 0 turns false loaded.resting) }
 {

@@ -92,7 +92,7 @@ impl<'a, L: Ledger> Machine<'a, L> {
     ) -> Result<Self, Memory>
         requires sound { IsSound (plain code.now) (memberships (opening nested.now)) (counts_of (opening nested.now)) }
         requires turns { turns < 2 ^ 32 - 1 }
-        ensures { IfOk result (λ machine. machine ≡ opening_seen (plain code.now) (memberships (opening nested.now)) turns) }
+        ensures { IfOk result (λ machine. machine ≡ opening_seen (plain code.now) (memberships (opening nested.now)) false turns) }
     {
         let links = Links::unheld(alloc);
         Machine::start(alloc, code, nested, turns, links, steps)
@@ -109,7 +109,7 @@ impl<'a, L: Ledger> Machine<'a, L> {
     ) -> Result<Self, Memory>
         requires sound { IsSound (plain code.now) (memberships (opening nested.now)) (counts_of (opening nested.now)) }
         requires turns { turns < 2 ^ 32 - 1 }
-        ensures { IfOk result (λ machine. machine ≡ opening_seen (plain code.now) (memberships (opening nested.now)) turns) }
+        ensures { IfOk result (λ machine. machine ≡ opening_seen (plain code.now) (memberships (opening nested.now)) true turns) }
     {
         let links = Links::held(alloc, turns)?;
         Machine::start(alloc, code, nested, turns, links, steps)
@@ -128,7 +128,7 @@ impl<'a, L: Ledger> Machine<'a, L> {
         requires turns { turns < 2 ^ 32 - 1 }
         requires none { links.items ≡ [] }
         requires room { turns ≤ links.room }
-        ensures { IfOk result (λ machine. machine ≡ opening_seen (plain code.now) (memberships (opening nested.now)) turns) }
+        ensures { IfOk result (λ machine. machine ≡ opening_seen (plain code.now) (memberships (opening nested.now)) links.held turns) }
     {
         let loaded = load_parts(alloc, code, nested, turns, links, steps)?;
         Ok(Machine {
@@ -367,6 +367,7 @@ fn turn<L: Ledger>(
     ensures freed { AreFreed (processes_of parts.new.procs.items) }
     ensures none_waits { result.released ≡ false → NoneWaits parts.new.procs.items }
     ensures room { parts.old.links.room ≤ parts.new.links.room + 1 }
+    ensures held { parts.new.links.held ≡ parts.old.links.held }
     ensures work { steps.new ≤ steps.old + turn_work (plain code.now) (memberships parts.old.table) number p (world parts.old) }
     ensures entry { enters_there (plain code.now) report.new.kind (slice_get (processes_of parts.old.procs.items) p) ≡ true → steps.new ≤ steps.old }
 {

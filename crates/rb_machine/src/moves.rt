@@ -63,6 +63,7 @@ pub fn act<L: Ledger>(
         (LeadsTo (plain code.now) turn p (processes_of parts.old.procs.items) parts.new result) }
     ensures stays { StaysOpen (plain code.now) parts.old parts.new }
     ensures room { parts.old.links.room + links_yet result ≤ parts.new.links.room + 1 }
+    ensures held { parts.new.links.held ≡ parts.old.links.held }
     ensures work { (one : Seen) → slice_get parts.old.procs.items p ≡ Some one
         → steps.new + 3 * named_yet (plain code.now) (memberships parts.old.table) p (world parts.new) result
         ≤ steps.old + looking (enters_there (plain code.now)
@@ -97,6 +98,7 @@ pub fn take_turn<L: Ledger>(
     ensures ran { result ≡ Move.Went → runs_there (slice_get (processes_of parts.old.procs.items) p) ≡ true }
     ensures stays { StaysOpen (plain code.now) parts.old parts.new }
     ensures room { parts.old.links.room + links_yet result ≤ parts.new.links.room + 1 }
+    ensures held { parts.new.links.held ≡ parts.old.links.held }
     ensures work { steps.new + 3 * named_yet (plain code.now) (memberships parts.old.table) p (world parts.new) result
         ≤ steps.old + looking (enters_there (plain code.now)
         (move (kind_with (plain code.now) parts.old.table) turn p (world parts.old)).kind (slice_get (processes_of parts.old.procs.items) p))
@@ -138,6 +140,7 @@ fn run<L: Ledger>(
         (LeadsTo (plain code.now) turn p (processes_of parts.old.procs.items) parts.new result) }
     ensures stays { StaysOpen (plain code.now) parts.old parts.new }
     ensures room { parts.old.links.room + links_yet result ≤ parts.new.links.room + 1 }
+    ensures held { parts.new.links.held ≡ parts.old.links.held }
     ensures work { (one : Seen) → slice_get parts.old.procs.items p ≡ Some one
         → steps.new + 3 * named_yet (plain code.now) (memberships parts.old.table) p (world parts.new) result
         ≤ steps.old + looking (enters_there (plain code.now)
@@ -180,6 +183,7 @@ fn go_on<L: Ledger>(
         (LeadsTo (plain code.now) turn p (processes_of parts.old.procs.items) parts.new result) }
     ensures stays { StaysOpen (plain code.now) parts.old parts.new }
     ensures room { parts.old.links.room + links_yet result ≤ parts.new.links.room + 1 }
+    ensures held { parts.new.links.held ≡ parts.old.links.held }
     ensures work { (one : Seen) → slice_get parts.old.procs.items p ≡ Some one
         → steps.new + 3 * named_yet (plain code.now) (memberships parts.old.table) p (world parts.new) result
         ≤ steps.old + looking (enters_there (plain code.now)

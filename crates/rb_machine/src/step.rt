@@ -55,6 +55,7 @@ fn step_kept<L: Ledger>(
         (record { turn = turn; process = p; alternate = alternate_by wanted proc.old.process.levels; before = proc.old.process.state.last_kept })
         links.old.items links.new.items }
     ensures room { links.old.room ≤ links.new.room + 1 }
+    ensures held { links.new.held ≡ links.old.held }
     ensures work { steps.new ≤ steps.old + 3 * named_in_step (plain code.now) proc.old.process mails.old message }
 {
     match proc.step(code, mails, wanted, message, steps) {
@@ -103,6 +104,7 @@ fn step_one<L: Ledger>(
         (record { turn = turn; process = p; alternate = alternate_by wanted one.process.levels; before = one.process.state.last_kept })
         links.old.items links.new.items }
     ensures room { links.old.room ≤ links.new.room + 1 }
+    ensures held { links.new.held ≡ links.old.held }
     ensures work { (one : Seen) → slice_get procs.old p ≡ Some one
         → steps.new ≤ steps.old + 3 * named_in_step (plain code.now) one.process mails.old message }
 {
@@ -142,6 +144,7 @@ pub fn take_step<L: Ledger>(
         (LeadsTo (plain code.now) turn p (processes_of parts.old.procs.items) parts.new result) }
     ensures stays { StaysOpen (plain code.now) parts.old parts.new }
     ensures room { parts.old.links.room + links_yet result ≤ parts.new.links.room + 1 }
+    ensures held { parts.new.links.held ≡ parts.old.links.held }
     ensures work { (one : Seen) → slice_get parts.old.procs.items p ≡ Some one
         → steps.new + 3 * named_yet (plain code.now) (memberships parts.old.table) p (world parts.new) result
         ≤ steps.old

@@ -1,10 +1,10 @@
 //! From a source to its code.
 
-ghost use Rattle.std.specs.Prelude.{◌≤◌, length, IfOk, IfErr};
+ghost use Rattle.std.specs.Prelude.{◌≡◌, ◌≤◌, length, IfOk, IfErr};
 ghost use Rattle.rb_judge.specs.Judged.{IsRefusal};
 ghost use Rattle.rb_prepare.specs.Prepared.{IsPrepared};
 
-use rb_base::{MOST_BYTES, Nested, Refusal};
+use rb_base::{MOST_BYTES, Names, Nested, Refusal};
 use rb_code::Code;
 use rb_gen::generate;
 use rb_judge::judge;
@@ -19,6 +19,16 @@ pub struct Prepared {
 impl Drop for Prepared {
     fn drop(self) {
         let Prepared { code: _, nested: _ } = self;
+    }
+}
+
+impl Prepared {
+    /// The names alone; the rest is let go.
+    pub fn into_names(self) -> Names
+        ensures { result ≡ self.code.names }
+    {
+        let Prepared { code, nested: _ } = self;
+        code.into_names()
     }
 }
 

@@ -1,5 +1,5 @@
 -- The text of a run: turn 0, the turns and the ending, each as it was written.
-use Rattle.std.proofs.Common.{◌≡◌, ℕ, zero, suc, ◌+◌, List, [], ◌++◌, length, map, replicate, Option, Result, Ok, Err, IsErr, refl, sym, ap, ◌∙◌, subst}
+use Rattle.std.proofs.Common.{◌≡◌, ℕ, zero, suc, ◌+◌, Bool, List, [], ◌++◌, length, map, replicate, Option, Result, Ok, Err, IsErr, refl, sym, ap, ◌∙◌, subst}
 use Rattle.std.proofs.lemmas.List.{length-map, length-replicate}
 use Rattle.std.proofs.lemmas.Simd.{map-map}
 use Rattle.std.proofs.lemmas.Slice.Zip.{AllZip-long}
@@ -55,7 +55,7 @@ pub is_end : (m : Seen) → IsEndOf (map (λ (q : Process Standing Copy). state_
 is_end m = record { states = map-map state_of standing m.world.processes; words = refl; sent = refl; taken = refl }
 
 -- A machine that was just loaded: its names, and where it stands once turn 0 was written.
-module _ (old : Seen) (fresh : old ≡ opening_seen old.code old.groups old.most) (names : Names) (fit : NamesFit old.code names) where
+module _ (old : Seen) (keeps : Bool) (fresh : old ≡ opening_seen old.code old.groups keeps old.most) (names : Names) (fit : NamesFit old.code names) where
   pub waiting_none : old.waiting ≡ replicate (length old.code.processes) []
   waiting_none = ap (λ (m : Seen). m.waiting) fresh
 
@@ -101,7 +101,7 @@ module _ (old : Seen) (fresh : old ≡ opening_seen old.code old.groups old.most
           → turns_left (naming names) now left ≡ all_told old.code.names 1 (word_run old.code old.groups all).1
       turns_text named =
           ap (λ one. turns_left one now left) named ∙ ap (λ (m : Seen). turns_left old.code.names m left) (is_old ∙ fresh)
-          ∙ ap (turns_left old.code.names (opening_seen old.code old.groups old.most)) whole
+          ∙ ap (turns_left old.code.names (opening_seen old.code old.groups keeps old.most)) whole
 
       module _ (later : Seen) (led : later ≡ ran now left) where
         to_all : later ≡ ran old all

@@ -109,8 +109,8 @@ counted_all m left none c whole so_far =
     ∙ (ap (λ (turns : List ℕ). both_counted (counts c) (told_counts (told_left m turns))) (sym none) ∙ so_far)
 
 -- no line of a machine waits that was just loaded
-pub none_waits_first : (old : Seen) → old ≡ opening_seen old.code old.groups old.most → NoneWaits old
-none_waits_first old fresh =
+pub none_waits_first : (old : Seen) (keeps : Bool) → old ≡ opening_seen old.code old.groups keeps old.most → NoneWaits old
+none_waits_first old keeps fresh =
     let each : length old.world.processes ≡ length old.code.processes =
     ap (λ (m : Seen). length m.world.processes) fresh ∙ opening-processes old.code old.groups in
     ap (λ (m : Seen). m.waiting) fresh ∙ ap (λ n. replicate n []) (sym each)

@@ -1,5 +1,5 @@
 -- The work of the turns that are left, and of one turn more.
-use Rattle.std.proofs.Common.{◌≡◌, ℕ, ◌+◌, ◌≤◌, List, [], ◌∷◌, length, replicate, ap, ◌∙◌, arith}
+use Rattle.std.proofs.Common.{◌≡◌, ℕ, ◌+◌, ◌≤◌, Bool, List, [], ◌∷◌, length, replicate, ap, ◌∙◌, arith}
 use Rattle.rb_world.specs.Turn.{Told}
 use Rattle.rb_machine.specs.Machine.{HasTurned, Seen, opening_seen}
 use Rattle.rb_recovery.specs.Work.{turn_work, turns_work}
@@ -27,9 +27,9 @@ pub work_through : (m : Seen) (p : ℕ) (left later : List ℕ) → left ≡ p �
 work_through m p left later parts ticks after bound turn within = omega (arith, turn, within, ap (work_left m) parts)
 
 -- the work of all turns of a machine that was just loaded, whose lines of turn 0 may have been written
-pub work_first : (old now : Seen) → old ≡ opening_seen old.code old.groups old.most → record now { waiting = [] } ≡ record old { waiting = [] }
+pub work_first : (old now : Seen) (keeps : Bool) → old ≡ opening_seen old.code old.groups keeps old.most → record now { waiting = [] } ≡ record old { waiting = [] }
     → (left all : List ℕ) → left ≡ all → work_left now left ≡ turns_work old.code old.groups 1 all old.world
-work_first old now fresh rest left all whole =
+work_first old now keeps fresh rest left all whole =
     ap (λ (x : Seen). work_left x left) rest
     ∙ ap (λ n. turns_work old.code old.groups (n + 1) left old.world) (ap (λ (x : Seen). x.taken) fresh)
     ∙ ap (λ turns. turns_work old.code old.groups 1 turns old.world) whole

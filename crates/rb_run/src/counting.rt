@@ -1,6 +1,6 @@
 //! A run that prints nothing, and counts the lines that it would print.
 
-ghost use Rattle.std.specs.Prelude.{◌≡◌, ◌+◌, ◌-◌, ◌*◌, ◌^◌, ◌<◌, ◌≤◌, true, [], ◌∷◌, length, replicate, sum_by};
+ghost use Rattle.std.specs.Prelude.{◌≡◌, ◌+◌, ◌-◌, ◌*◌, ◌^◌, ◌<◌, ◌≤◌, false, true, [], ◌∷◌, length, replicate, sum_by};
 ghost use Rattle.rb_base.specs.declared.event.TheConstants.{MOST_EVENTS};
 ghost use Rattle.rb_base.specs.declared.limits.TheConstants.{MOST_HELD_BYTES, MOST_PROCESSES_SECOND};
 ghost use Rattle.rb_code.specs.WordMachine.WordKind.{word_kind};
@@ -26,14 +26,14 @@ pub struct Counts {
     pub done: u64,
 }
 
-/// Runs a machine that was just loaded over a schedule that was just read, and counts the lines of each kind that its run would print
-/// before its `end` line. It takes no memory, and its ticks are at most those of its turns.
+/// Runs a machine that was just loaded, and holds no links, over a schedule that was just read, and counts the lines of each kind that its
+/// run would print before its `end` line. It takes no memory, and its ticks are at most those of its turns.
 pub fn count<L: Ledger>(
     machine: &mut Machine<'_, L>,
     schedule: Schedule<'_>,
     steps: &mut Steps<L>,
 ) -> Counts
-    requires fresh { machine.old ≡ opening_seen machine.old.code machine.old.groups machine.old.most }
+    requires fresh { machine.old ≡ opening_seen machine.old.code machine.old.groups false machine.old.most }
     requires whole { schedule.left ≡ schedule.all }
     requires turns { length schedule.left ≤ machine.old.most }
     ensures counts { counts result

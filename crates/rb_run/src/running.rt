@@ -22,10 +22,10 @@ use rb_sched::Schedule;
 use rb_trace::{write_end, write_report};
 use std::sync::ledger::Ledger;
 
-/// Runs a machine that was just loaded over a schedule that was just read, and writes the run's text. It takes no memory: it answers Ok
-/// with the whole text written, or Failed where a write failed, with a prefix written. Of code that stands for an accepted source that is
-/// the text that the meaning gives. Its ticks are at most those of its turns, and one
-/// for each number that the ending prints.
+/// Runs a machine that was just loaded, and holds no links, over a schedule that was just read, and writes the run's text. It takes no
+/// memory: it answers Ok with the whole text written, or Failed where a write failed, with a prefix written. Of code that stands for an
+/// accepted source that is the text that the meaning gives. Its ticks are at most those of its turns, and one for each number that the
+/// ending prints.
 #[inline(always)]
 pub fn run<S: Sink, L: Ledger>(
     machine: &mut Machine<'_, L>,
@@ -34,7 +34,7 @@ pub fn run<S: Sink, L: Ledger>(
     out: &mut S,
     steps: &mut Steps<L>,
 ) -> Result<(), Failed>
-    requires fresh { machine.old ≡ opening_seen machine.old.code machine.old.groups machine.old.most }
+    requires fresh { machine.old ≡ opening_seen machine.old.code machine.old.groups false machine.old.most }
     requires named { naming names.now ≡ machine.old.code.names }
     requires fit { NamesFit machine.old.code names.now }
     requires whole { schedule.left ≡ schedule.all }

@@ -27,7 +27,7 @@ pub enum Ended {
     Memory,
 }
 
-/// Runs a machine that was just loaded over a schedule that was just read, with nothing printed, and then writes its survivors as a
+/// Runs a machine that was just loaded for survivors over a schedule that was just read, with nothing printed, and then writes them as a
 /// record. Where memory is wanting for their list nothing is written. Of code that stands for an accepted source the plain run of this
 /// record ends as the run ended. Its ticks are at most those of its turns.
 pub fn survive<S: Sink, L: Ledger>(
@@ -38,7 +38,7 @@ pub fn survive<S: Sink, L: Ledger>(
     out: &mut S,
     steps: &mut Steps<L>,
 ) -> Result<(), Ended>
-    requires fresh { machine.old ≡ opening_seen machine.old.code machine.old.groups machine.old.most }
+    requires fresh { machine.old ≡ opening_seen machine.old.code machine.old.groups true machine.old.most }
     requires named { naming names.now ≡ machine.old.code.names }
     requires whole { schedule.left ≡ schedule.all }
     requires turns { length schedule.left ≤ machine.old.most }

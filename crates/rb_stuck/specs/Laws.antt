@@ -9,6 +9,7 @@ use Rattle.rb_code.specs.SoundCode.WellFormed.{IsSound}
 use Rattle.rb_code.specs.WordMachine.WordKind.{word_kind}
 use Rattle.rb_code.specs.WordMachine.WordRun.{word_run}
 use Rattle.rb_prepare.specs.Laws.{OfEveryCode}
+use Rattle.rb_stuck.specs.AsTold.{StandsAsTold}
 use Rattle.rb_stuck.specs.Programs.{tree_standing_text, word_standing_text}
 use Rattle.rb_stuck.specs.Stuck.{ChangesNothing, is_stuck}
 
@@ -22,6 +23,10 @@ abbrev pub StuckCodeStays : Type 0
 StuckCodeStays = (c : Code) (groups : List Membership) (counts turns more : List ℕ) → IsSound c groups counts
     → is_stuck (word_kind c groups) (length turns + 1) (word_run c groups turns).0 ≡ true
     → ChangesNothing (word_kind c groups) (word_run c groups turns).0 (length turns + 1) more (word_run c groups turns).0
+
+-- What is written of how the run of a tree stands is so, whatever turns were taken.
+abbrev pub StandingsAreTold : Type 0
+StandingsAreTold = (tree : Tree) (turns text : List ℕ) → text ≡ tree_standing_text tree turns → StandsAsTold tree turns text
 
 -- The code of a source stands as its tree does, after all turns.
 abbrev pub StandsAsMeant : Tree → Code → Type 0

@@ -94,11 +94,17 @@ IsWithinBounds {S} {C} p w = (q : Process S C) → slice_get w.processes p ≡ S
 abbrev pub TellsNothing : ℕ → Told → Type 0
 TellsNothing processes told = told ≡ record { kind = told.kind; events = []; released = replicate processes [] }
 
+-- A turn that came to this changed no more of the world before it than turns used, and told nothing.
+abbrev pub ChangesNoMore : {S C M : Type 0} → World S C M → World S C M × Told → Type 0
+ChangesNoMore before end = TellsNothing (length before.processes) end.1 × IsAlike end.0 before
+
+-- one turn of process p in a world, with this number, changes more than turns used
+abbrev pub ChangesMore : {S C M : Type 0} → Kind S C M → ℕ → World S C M → ℕ → Type 0
+ChangesMore k t w p = ChangesNoMore w (turn k t p w) → ⊥
+
 -- From a world on, turns of these processes change nothing of it but turns used and tell nothing, up to the first in which a level is
 -- beyond its bound.
 abbrev pub ChangesNothing : {S C M : Type 0} → Kind S C M → World S C M → ℕ → List ℕ → World S C M → Type 0
 ChangesNothing k first t [] w = Unit {0}
 ChangesNothing k first t (p ∷ turns) w =
-    IsWithinBounds p w
-    → TellsNothing (length first.processes) (turn k t p w).1 × IsAlike (turn k t p w).0 first
-    × ChangesNothing k first (t + 1) turns (turn k t p w).0
+    IsWithinBounds p w → ChangesNoMore first (turn k t p w) × ChangesNothing k first (t + 1) turns (turn k t p w).0

@@ -1,5 +1,5 @@
 -- What is known of a machine between two turns of its run.
-use Rattle.std.proofs.Common.{◌≡◌, ℕ, suc, ◌+◌, ◌<◌, ◌≤◌, ◌^◌, List, [], ◌∷◌, ◌++◌, length, ap, sym, ◌∙◌, subst, arith}
+use Rattle.std.proofs.Common.{◌≡◌, ℕ, suc, ◌+◌, ◌<◌, ◌≤◌, ◌^◌, Bool, List, [], ◌∷◌, ◌++◌, length, ap, sym, ◌∙◌, subst, arith}
 use Rattle.std.proofs.lemmas.List.{length-append}
 use Rattle.rb_base.specs.Limits.{most_processes, most_words}
 use Rattle.rb_base.specs.declared.edition.Edition.{Edition}
@@ -44,8 +44,8 @@ of_run_next m now p code groups world taken h = record {
 }
 
 -- and so is one that was just loaded
-pub of_run_first : (m : Seen) → m ≡ opening_seen m.code m.groups m.most → IsOfRun m
-of_run_first m fresh = record {
+pub of_run_first : (m : Seen) (keeps : Bool) → m ≡ opening_seen m.code m.groups keeps m.most → IsOfRun m
+of_run_first m keeps fresh = record {
   turns = [];
   world = ap (λ (x : Seen). x.world) fresh;
   taken = ap (λ (x : Seen). x.taken) fresh;

@@ -1,5 +1,5 @@
 -- The whole trace: its head, the opening, the turns and the ending, each as it was written.
-use Rattle.std.proofs.Common.{◌≡◌, ℕ, List, [], ◌∷◌, ◌++◌, length, map, replicate, Option, refl, ap, sym, ◌∙◌, subst}
+use Rattle.std.proofs.Common.{◌≡◌, ℕ, false, List, [], ◌∷◌, ◌++◌, length, map, replicate, Option, refl, ap, sym, ◌∙◌, subst}
 use Rattle.rb_base.specs.declared.event.Event.{Event}
 use Rattle.rb_base.specs.declared.event.TurnKind.{TurnKind}
 use Rattle.rb_base.specs.declared.names.Group.{Group}
@@ -42,21 +42,21 @@ head_is c conversations n all counted = λ j. head_of c (meetings_same conversat
 
 -- A machine that was just loaded from a code and its conversations, and what follows from that.
 pub record IsLoaded (old : Seen) (held : Held) (groups : List Membership) : Type 0 where
-  pub loaded : old ≡ opening_seen (plain held) groups old.most
-  pub fresh : old ≡ opening_seen old.code old.groups old.most
+  pub loaded : old ≡ opening_seen (plain held) groups false old.most
+  pub fresh : old ≡ opening_seen old.code old.groups false old.most
   pub code_is : old.code ≡ plain held
   pub groups_are : old.groups ≡ groups
   pub named : naming held.names ≡ old.code.names
   pub fit : NamesFit old.code held.names
 
-pub loaded_from : (old : Seen) (held : Held) (groups : List Membership) → old ≡ opening_seen (plain held) groups old.most
+pub loaded_from : (old : Seen) (held : Held) (groups : List Membership) → old ≡ opening_seen (plain held) groups false old.most
     → NamesFit (plain held) held.names → IsLoaded old held groups
 loaded_from old held groups loaded fit =
     let code : old.code ≡ plain held = ap (λ (m : Seen). m.code) loaded in
     let same : old.groups ≡ groups = ap (λ (m : Seen). m.groups) loaded in
     record {
       loaded = loaded;
-      fresh = loaded ∙ (λ j. opening_seen (sym code j) (sym same j) old.most);
+      fresh = loaded ∙ (λ j. opening_seen (sym code j) (sym same j) false old.most);
       code_is = code;
       groups_are = same;
       named = ap (λ (c : Code). c.names) (sym code);
@@ -74,7 +74,7 @@ module _ (old : Seen) (held : Held) (groups : List Membership) (l : IsLoaded old
 
   -- it is as it was once the lines of the opening were written
   pub still : (now : Seen) → now.waiting ≡ replicate (length old.waiting) [] → record now { waiting = [] } ≡ record old { waiting = [] } → now ≡ old
-  still now none rest = is_old old l.fresh held.names l.fit now none rest
+  still now none rest = is_old old false l.fresh held.names l.fit now none rest
 
   -- what is told before the first turn
   pub opening_is : (places : List (Option Place)) (was : WorldNoted) → was ≡ before_opening (plain held) groups → (kind : TurnKind) (events : List Event)
@@ -83,7 +83,7 @@ module _ (old : Seen) (held : Held) (groups : List Membership) (l : IsLoaded old
       ++ (back_text kind 0 (naming held.names) was (shown_now old) ++ changes 0 (naming held.names) was (shown_now old))
       ≡ opening_text (word_reading (plain held) groups places) (naming held.names) (before_opening (plain held) groups) (opening_of (plain held) groups)
   opening_is places was before kind events told =
-      let text = first_text old l.fresh held.names l.fit l.named kind events told
+      let text = first_text old false l.fresh held.names l.fit l.named kind events told
       ∙ (λ j. told_text (l.code_is j).names 0 (told_at_opening (opening_of (l.code_is j) (l.groups_are j)))) in
       λ j. text j
       ++ (kept_all (told_of kind events []) (told_at_opening old.world) 0 (naming held.names) was old told j

@@ -1,6 +1,6 @@
 //! The trace of a run: its head, what is told before the first turn and in each turn, and the ending of the run.
 
-ghost use Rattle.std.specs.Prelude.{◌≡◌, ◌+◌, ◌<◌, ◌≤◌, [], ◌++◌, length, replicate, slice_get, OnOk};
+ghost use Rattle.std.specs.Prelude.{◌≡◌, ◌+◌, ◌<◌, ◌≤◌, false, [], ◌++◌, length, replicate, slice_get, OnOk};
 ghost use Rattle.rb_code.specs.Instructions.Plain.{code as plain};
 ghost use Rattle.rb_conv.specs.Conversations.{memberships, opening};
 ghost use Rattle.rb_outside.specs.Puts.{Puts};
@@ -26,9 +26,9 @@ use rb_sched::Schedule;
 use rb_trace::{write_end, write_report};
 use std::sync::ledger::Ledger;
 
-/// Runs a machine that was just loaded from this code over a schedule that was just read, and writes the trace of the run. The places are
-/// those of the code, by address, and `was` is a program before its opening. It takes no memory: it answers Ok with the whole trace written,
-/// or Failed where a write failed, with a prefix written.
+/// Runs a machine that was just loaded from this code, and holds no links, over a schedule that was just read, and writes the trace of the
+/// run. The places are those of the code, by address, and `was` is a program before its opening. It takes no memory: it answers Ok with the
+/// whole trace written, or Failed where a write failed, with a prefix written.
 pub fn write_trace<S: Sink, L: Ledger>(
     machine: &mut Machine<'_, L>,
     code: &Code,
@@ -39,7 +39,7 @@ pub fn write_trace<S: Sink, L: Ledger>(
     out: &mut S,
     steps: &mut Steps<L>,
 ) -> Result<(), Failed>
-    requires fresh { machine.old ≡ opening_seen (plain code.now) (memberships (opening nested.now)) machine.old.most }
+    requires fresh { machine.old ≡ opening_seen (plain code.now) (memberships (opening nested.now)) false machine.old.most }
     requires fit { NamesFit (plain code.now) code.now.names }
     requires before { was.old ≡ before_opening (plain code.now) (memberships (opening nested.now)) }
     requires whole { schedule.left ≡ schedule.all }

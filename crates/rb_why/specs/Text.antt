@@ -3,15 +3,14 @@ use Rattle.std.specs.Prelude.{ℕ, ◌+◌, ◌-◌, ◌==◌, min, Bool, true, 
 use Rattle.rb_base.specs.Naming.{process_names}
 use Rattle.rb_base.specs.Words.{fault_word}
 use Rattle.rb_base.specs.declared.fault.FaultName.{FaultName}
-use Rattle.rb_base.specs.declared.fault.FaultName.TheVariants.{T2, T3, V2, V3, B2}
+use Rattle.rb_base.specs.declared.fault.FaultName.TheVariants.{T1, T2, T3, T4, V1, V2, V3, B1, B2, B3}
 use Rattle.rb_base.specs.declared.fault.TextFault.{TextFault}
 use Rattle.rb_base.specs.declared.limits.TheConstants.{MOST_BYTES}
 use Rattle.rb_base.specs.declared.names.Names.{Names}
 use Rattle.rb_base.specs.declared.place.Place.{Place}
-use Rattle.rb_why.specs.Bytes.{carriage_return_words, has_inner_cr, has_order_mark, order_mark_words}
+use Rattle.rb_why.specs.Bytes.{carriage_return_words, has_cr, has_order_mark, order_mark_words}
 use Rattle.rb_frame.specs.Frame.{framed}
 use Rattle.rb_why.specs.Likeness.{reads_like_source}
-use Rattle.rb_frame.specs.Lines.{line_at}
 use Rattle.rb_why.specs.Listed.{listed}
 use Rattle.rb_why.specs.Phrases.{sentence}
 use Rattle.rb_why.specs.Words.{from_word, word_at, words_line}
@@ -36,12 +35,26 @@ is_about_word name = false
 abbrev pub subject : List ℕ → FaultName → List ℕ
 subject line name = cond (is_about_word name) (word_at line (told_word name)) []
 
--- whether a fault is about a name that no process has
+-- whether a text with a fault of this name speaks of the processes of a program, as a schedule, a record and a session do
 abbrev pub names_process : FaultName → Bool
+names_process T1 = true
 names_process T2 = true
+names_process T3 = true
+names_process T4 = true
+names_process V1 = true
 names_process V2 = true
+names_process V3 = true
+names_process B1 = true
 names_process B2 = true
+names_process B3 = true
 names_process name = false
+
+-- whether a fault is about a name that no process has
+abbrev pub is_about_process : FaultName → Bool
+is_about_process T2 = true
+is_about_process V2 = true
+is_about_process B2 = true
+is_about_process name = false
 
 -- the sentence with the processes that there are
 abbrev pub with_processes : List ℕ → Option Names → List ℕ
@@ -51,14 +64,14 @@ with_processes words (Some names) = words ++ (codes ", which has " ++ listed (pr
 -- the sentence about the word that a fault is about, with the processes that there are where it is a name that none has
 abbrev pub word_words : List ℕ → Option Names → FaultName → List ℕ
 word_words line names name =
-    cond (names_process name) (with_processes (sentence name (subject line name)) names) (sentence name (subject line name))
+    cond (is_about_process name) (with_processes (sentence name (subject line name)) names) (sentence name (subject line name))
 
--- the sentence about a fault of a line
+-- the sentence about a fault of a line; what a comment has is no matter
 abbrev pub line_words : List ℕ → Option Names → TextFault → List ℕ
 line_words text names fault =
     cond ((fault.at == 1) && has_order_mark text) order_mark_words
-    (cond (reads_like_source text) (codes "this reads like a source, and another text is wanted here")
-    (cond (has_inner_cr (line_at fault.at text)) carriage_return_words
+    (cond (reads_like_source names text) (codes "this reads like a source, and another text is wanted here")
+    (cond (has_cr (words_line text fault.at)) carriage_return_words
     (word_words (words_line text fault.at) names fault.name)))
 
 -- the place of a word of a line, from 0; no text has a column above the most bytes

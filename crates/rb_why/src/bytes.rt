@@ -1,15 +1,19 @@
 //! Sentences about bytes that no token has, and about texts that do not end.
 
 ghost use Rattle.std.specs.Prelude.{◌≡◌, IfOk};
-ghost use Rattle.rb_why.specs.Bytes.{byte_words, carriage_return_words, front_byte_words, has_inner_cr, has_order_mark, open_words, order_mark_words, rest_words};
+ghost use Rattle.rb_why.specs.Bytes.{byte_words, carriage_return_words, from_place, front_byte_words, has_cr, has_order_mark, line_from, open_words, order_mark_words};
 
 use crate::phrases::sentence;
 use itoa::Buffer;
 use rb_base::{FaultName, Memory, Place};
 use rb_frame::joined::joined;
 use rb_frame::lines::{before, line_at};
+use rb_frame::places::is_place;
 use rb_sched::words::without_cr;
 use std::alloc::Global;
+
+/// The place of the first byte of a text.
+const FIRST_PLACE: Place = Place { line: 1, column: 1 };
 
 /// Whether a text begins with a byte order mark.
 pub(crate) fn has_order_mark(text: &[u8]) -> bool
@@ -38,28 +42,35 @@ pub(crate) fn carriage_return_sentence(alloc: Global) -> Result<Vec<u8>, Memory>
     )
 }
 
-/// Whether a line has a CR that does not end it.
-pub(crate) fn has_inner_cr(line: &[u8]) -> bool
-    ensures { result ≡ has_inner_cr line.now }
+/// Whether bytes have a CR.
+pub(crate) fn has_cr(bytes: &[u8]) -> bool
+    ensures { result ≡ has_cr bytes.now }
 {
-    without_cr(line).iter().any(|byte| *byte == b'\r')
+    bytes.contains(&b'\r')
+}
+
+// The source from a place on.
+fn from_place(source: &[u8], place: Place) -> &[u8]
+    ensures { result.now ≡ from_place source.now place }
+{
+    &source[before(source, place).len()..]
+}
+
+// What stands of its line from a place on, without the CR that may end the line.
+fn line_from(source: &[u8], place: Place) -> &[u8]
+    ensures { result.now ≡ line_from source.now place }
+{
+    without_cr(line_at(from_place(source, place), 1))
 }
 
 /// That a byte can't stand at this place of a source.
 pub(crate) fn byte_sentence(alloc: Global, source: &[u8], place: Place) -> Result<Vec<u8>, Memory>
     ensures { IfOk result (λ words. words.items ≡ byte_words source.now place) }
 {
-    rest_sentence(alloc, &source[before(source, place).len()..])
-}
-
-// The same of the bytes from the place on.
-fn rest_sentence(alloc: Global, rest: &[u8]) -> Result<Vec<u8>, Memory>
-    ensures { IfOk result (λ words. words.items ≡ rest_words rest.now) }
-{
-    if has_order_mark(rest) {
+    if is_place(place, FIRST_PLACE) && has_order_mark(source) {
         order_mark_sentence(alloc)
     } else {
-        front_byte_sentence(alloc, rest)
+        front_byte_sentence(alloc, from_place(source, place))
     }
 }
 
@@ -76,11 +87,11 @@ fn front_byte_sentence(alloc: Global, rest: &[u8]) -> Result<Vec<u8>, Memory>
     sentence(alloc, FaultName::X1, digits.format(*byte).as_bytes())
 }
 
-/// That the text at this place has no closing quote on its line.
+/// That the text whose opening quote stands at this place has no closing quote on its line.
 pub(crate) fn open_sentence(alloc: Global, source: &[u8], place: Place) -> Result<Vec<u8>, Memory>
     ensures { IfOk result (λ words. words.items ≡ open_words source.now place) }
 {
-    if has_inner_cr(line_at(source, place.line)) {
+    if has_cr(line_from(source, place)) {
         joined(
             alloc,
             &[b"a carriage return stands in this text before its closing quote"],

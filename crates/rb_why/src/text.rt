@@ -1,9 +1,9 @@
 //! Why a schedule, a record, a session or a history is refused, in words.
 
 ghost use Rattle.std.specs.Prelude.{◌≡◌, option_map, IfOk};
-ghost use Rattle.rb_why.specs.Text.{is_about_word, line_words, names_process, subject, text_told, told_word, with_processes, word_place, word_words};
+ghost use Rattle.rb_why.specs.Text.{is_about_process, is_about_word, line_words, names_process, subject, text_told, told_word, with_processes, word_place, word_words};
 
-use crate::bytes::{carriage_return_sentence, has_inner_cr, has_order_mark, order_mark_sentence};
+use crate::bytes::{carriage_return_sentence, has_cr, has_order_mark, order_mark_sentence};
 use crate::likeness::reads_like_source;
 use crate::listed::processes_listed;
 use crate::phrases::sentence;
@@ -11,7 +11,6 @@ use crate::words::{from_word, word_at, words_line};
 use rb_base::{FaultName, MOST_BYTES, Memory, Names, Place, TextFault};
 use rb_frame::frame::frame;
 use rb_frame::joined::joined;
-use rb_frame::lines::line_at;
 use std::alloc::Global;
 
 /// Why a text of this file is refused for the fault of one of its lines, with a mark under the word that it is about. The names are those
@@ -81,9 +80,29 @@ fn is_about_word(name: FaultName) -> bool
     )
 }
 
-/// Whether a fault is about a name that no process has.
+/// Whether a text with a fault of this name speaks of the processes of a program, as a schedule, a record and a session do: so that why it
+/// is refused is told with their names.
 pub fn names_process(name: FaultName) -> bool
     ensures { result ≡ names_process name }
+{
+    matches!(
+        name,
+        FaultName::T1
+            | FaultName::T2
+            | FaultName::T3
+            | FaultName::T4
+            | FaultName::V1
+            | FaultName::V2
+            | FaultName::V3
+            | FaultName::B1
+            | FaultName::B2
+            | FaultName::B3
+    )
+}
+
+// Whether a fault is about a name that no process has.
+fn is_about_process(name: FaultName) -> bool
+    ensures { result ≡ is_about_process name }
 {
     matches!(name, FaultName::T2 | FaultName::V2 | FaultName::B2)
 }
@@ -100,16 +119,17 @@ fn line_sentence(
     if fault.at == 1 && has_order_mark(text) {
         return order_mark_sentence(alloc);
     }
-    if reads_like_source(text) {
+    if reads_like_source(text, names) {
         return joined(
             alloc,
             &[b"this reads like a source, and another text is wanted here"],
         );
     }
-    if has_inner_cr(line_at(text, fault.at)) {
+    let line = words_line(text, fault.at);
+    if has_cr(line) {
         return carriage_return_sentence(alloc);
     }
-    word_sentence(alloc, words_line(text, fault.at), names, fault.name)
+    word_sentence(alloc, line, names, fault.name)
 }
 
 // The sentence about the word that a fault is about.
@@ -122,7 +142,7 @@ fn word_sentence(
     ensures { IfOk result (λ words. words.items ≡ word_words line.now (option_map (λ n. n.now) names.entry) name) }
 {
     let words = sentence(alloc, name, subject(line, name))?;
-    if names_process(name) {
+    if is_about_process(name) {
         with_processes(alloc, words, names)
     } else {
         Ok(words)

@@ -1,5 +1,5 @@
 -- The turns of a machine, one after another, are the run of the word machine.
-use Rattle.std.proofs.Common.{◌≡◌, ℕ, ◌+◌, List, [], ◌∷◌, length, replicate, ap, sym, ◌∙◌}
+use Rattle.std.proofs.Common.{◌≡◌, ℕ, ◌+◌, Bool, List, [], ◌∷◌, length, replicate, ap, sym, ◌∙◌}
 use Rattle.rb_world.specs.Kind.{Membership}
 use Rattle.rb_world.specs.Turn.{Told, run, told_first}
 use Rattle.rb_code.specs.Instructions.Plain.{Code}
@@ -30,6 +30,6 @@ machine_runs_from old new (p ∷ ps) all (next, one, others, turned_so, is, rest
     ∙ sym (run_goes_on old next p ps one lines turned_so))
 
 -- from a machine that was loaded they are the run of the code
-pub machine_runs : (c : Code) (groups : List Membership) (most : ℕ) (new : Seen) (ps : List ℕ) (all : List Told)
-    → HasRun (opening_seen c groups most) ps all new → (new.world, all) ≡ word_run c groups ps
-machine_runs c groups most new ps all h = machine_runs_from (opening_seen c groups most) new ps all h
+pub machine_runs : (c : Code) (groups : List Membership) (keeps : Bool) (most : ℕ) (new : Seen) (ps : List ℕ) (all : List Told)
+    → HasRun (opening_seen c groups keeps most) ps all new → (new.world, all) ≡ word_run c groups ps
+machine_runs c groups keeps most new ps all h = machine_runs_from (opening_seen c groups keeps most) new ps all h

@@ -1,5 +1,5 @@
 -- A machine that was loaded stands for the world of the word machine before its first turn, and is at work.
-use Rattle.std.proofs.Common.{◌≡◌, ℕ, ◌<◌, ◌≤◌, pos, List, [], ◌∷◌, length, map, replicate, Some, refl, ap, sym, ◌∙◌, subst, arith}
+use Rattle.std.proofs.Common.{◌≡◌, ℕ, ◌<◌, ◌≤◌, pos, Bool, List, [], ◌∷◌, length, map, replicate, Some, refl, ap, sym, ◌∙◌, subst, arith}
 use Rattle.std.specs.List.{All}
 use Rattle.std.specs.Option.{unwrap_or}
 use Rattle.std.proofs.lemmas.List.{get_or-map, length-map, length-replicate}
@@ -95,25 +95,26 @@ module _ (c : Code) (nested : Nested) (sound : IsSound c (memberships (opening n
       ∙ ap (λ n. replicate n []) (sym (length-map (opening_standings 0 c.processes) (λ (s : Standing). settled (word_kind c groups) s []))
       ∙ opening-processes c groups)
 
-  abbrev machine_of : ℕ → List Seen → List Conversation → Slots → List Link → Machine
-  machine_of most procs others slots links = record {
+  abbrev machine_of : Bool → ℕ → List Seen → List Conversation → Slots → List Link → Machine
+  machine_of keeps most procs others slots links = record {
     code = c;
     groups = memberships others;
     world = world_of procs others (memory_of slots links);
     waiting = lines_of procs;
+    keeps = keeps;
     taken = 0;
     most = most;
   }
 
-  pub opens_as : (most : ℕ) (procs : List Seen) (others : List Conversation) (slots : Slots) (links : List Link) → procs ≡ firsts → others ≡ table
-      → slots ≡ zero_slots c.channels → links ≡ [] → machine_of most procs others slots links ≡ opening_seen c groups most
-  opens_as most procs others slots links first same zeros none =
-      ap (λ (ps : List Seen). machine_of most ps others slots links) first
-      ∙ (ap (λ (cs : List Conversation). machine_of most firsts cs slots links) same
-      ∙ (ap (λ (ss : Slots). machine_of most firsts table ss links) zeros
-      ∙ (ap (λ (ls : List Link). machine_of most firsts table (zero_slots c.channels) ls) none
-      ∙ (ap (λ (w : WordWorld). record (machine_of most firsts table (zero_slots c.channels) []) { world = w }) world_is
-      ∙ ap (λ (ls : List (List (List ℕ))). record (opening_seen c groups most) { waiting = ls }) lines_are))))
+  pub opens_as : (keeps : Bool) (most : ℕ) (procs : List Seen) (others : List Conversation) (slots : Slots) (links : List Link) → procs ≡ firsts → others ≡ table
+      → slots ≡ zero_slots c.channels → links ≡ [] → machine_of keeps most procs others slots links ≡ opening_seen c groups keeps most
+  opens_as keeps most procs others slots links first same zeros none =
+      ap (λ (ps : List Seen). machine_of keeps most ps others slots links) first
+      ∙ (ap (λ (cs : List Conversation). machine_of keeps most firsts cs slots links) same
+      ∙ (ap (λ (ss : Slots). machine_of keeps most firsts table ss links) zeros
+      ∙ (ap (λ (ls : List Link). machine_of keeps most firsts table (zero_slots c.channels) ls) none
+      ∙ (ap (λ (w : WordWorld). record (machine_of keeps most firsts table (zero_slots c.channels) []) { world = w }) world_is
+      ∙ ap (λ (ls : List (List (List ℕ))). record (opening_seen c groups keeps most) { waiting = ls }) lines_are))))
 
   pub opens_at_work : (procs : List Seen) (others : List Conversation) (slots : Slots) (links : List Link) → IsExecutable c → HasFewAlternates c
       → procs ≡ firsts → others ≡ table → slots ≡ zero_slots c.channels → links ≡ [] → IsAtWork c 1 procs others slots links

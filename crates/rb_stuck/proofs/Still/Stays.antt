@@ -31,7 +31,7 @@ module _ {S C M : Type 0} (k : Kind S C M) (n : ℕ) (first : World S C M) where
   nobody p (Some q) e = absurd (none_some (sym e))
 
   -- in a stuck world each turn is still, also one of nobody
-  each_still : is_stuck k n first ≡ true → (p : ℕ) → stands_still k n first p ≡ true
+  pub each_still : is_stuck k n first ≡ true → (p : ℕ) → stands_still k n first p ≡ true
   each_still stuck p = within_or_past (cases_lt p (length first.processes))
     where
       within_or_past : (p < length first.processes) ⊎ (length first.processes ≤ p) → stands_still k n first p ≡ true
@@ -44,8 +44,7 @@ module _ {S C M : Type 0} (k : Kind S C M) (n : ℕ) (first : World S C M) where
   stays still free t (p ∷ turns) w alike = λ within.
       let one = stays_still k n t p first w (alike_back alike) (freed_alike k w first alike free) (λ q here runs. within q here) (still p) in
       let after : IsAlike (turn k t p w).0 first = alike_then one.alike alike in (
-        subst (λ many. TellsNothing many (turn k t p w).1) (as_many w first alike) one.tells,
-        after,
+        (subst (λ many. TellsNothing many (turn k t p w).1) (as_many w first alike) one.tells, after),
         stays still free (t + 1) turns (turn k t p w).0 after,
       )
 

@@ -43,7 +43,7 @@ load_mails-requires g c =
 
 pub returns-clause-seen : goal.returns-clause-seen
 returns-clause-seen g c =
-    opens_as (plain c.args.code.now) c.args.nested.now c.requires.sound c.args.turns _ _ _ _ c.in_ok-procs.ensures
+    opens_as (plain c.args.code.now) c.args.nested.now c.requires.sound c.args.links.held c.args.turns _ _ _ _ c.in_ok-procs.ensures
     c.in_ok-table.ensures.opening
     (c.in_ok-mails.ensures ∙ ap (λ (channels : List ChannelCode). zero_slots (map channel channels)) c.deref.ensures.value)
     c.requires.none

@@ -1,5 +1,5 @@
 -- A turn is under way, and ends.
-use Rattle.std.proofs.Common.{ℕ, ◌+◌, ◌≤◌, ap, arith}
+use Rattle.std.proofs.Common.{ℕ, ◌+◌, ◌≤◌, ap, ◌∙◌, arith}
 use Rattle.rb_world.specs.Turn.{Told}
 use Rattle.rb_code.specs.Instructions.Plain.{code as plain}
 use Rattle.rb_code.specs.WordMachine.WordRun.{WordWorld}
@@ -56,6 +56,7 @@ returns g c =
       freed = ended.turned.freed;
       none_waits = ended.turned.none_waits;
       room = omega (arith, c.end_turn-released.ensures.room, moved.ensures.room);
+      held = c.end_turn-released.ensures.held ∙ moved.ensures.held;
       work = work;
       entry =
           λ e. entry_adds_nothing code (memberships parts.table) c.args.number c.args.p (world parts) c.end_turn-released.new.report.kind _ _ c.requires.freed

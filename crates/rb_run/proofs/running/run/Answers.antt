@@ -1,5 +1,5 @@
 -- The three parts of a run, and what each asks for.
-use Rattle.std.proofs.Common.{ap, arith, length}
+use Rattle.std.proofs.Common.{ap, arith, false, length}
 use Rattle.rb_trace.specs.Ended.{state_of}
 use Rattle.rb_trace.specs.Naming.{naming}
 use Rattle.rb_trace.specs.Report.{told_of}
@@ -15,7 +15,7 @@ use Rattle.rb_run.proofs.running.run.Goals as goal
 pub returns-in_err-write_report-clause-text : goal.returns-in_err-write_report-clause-text
 returns-in_err-write_report-clause-text g c =
     let old = c.args.machine.now in
-    let first = first_text old c.requires.fresh c.args.names.now c.requires.fit c.requires.named c.opening-report.result.kind
+    let first = first_text old false c.requires.fresh c.args.names.now c.requires.fit c.requires.named c.opening-report.result.kind
     c.opening-report.result.events.items c.opening-report.ensures.told in
     stopped_at_first old c.args.schedule.all (g.S.Sink.written c.args.out.now) (g.S.Sink.written c.write_report.new.out)
     (g.S.Sink.faults c.args.out.now) (g.S.Sink.faults c.write_report.new.out) c.in_err-write_report.field-0.0 c.from_residual.result
@@ -25,12 +25,12 @@ returns-in_err-write_report-clause-text g c =
 
 pub take_turns-requires-clause-named : goal.take_turns-requires-clause-named
 take_turns-requires-clause-named g c =
-    named_now c.args.machine.now c.requires.fresh c.args.names.now c.requires.fit c.write_report.new.lines
+    named_now c.args.machine.now false c.requires.fresh c.args.names.now c.requires.fit c.write_report.new.lines
     c.in_ok-write_report.ensures.none_waits c.write_report.ensures.rest
 
 pub take_turns-requires-clause-waits : goal.take_turns-requires-clause-waits
 take_turns-requires-clause-waits g c =
-    waits_now c.args.machine.now c.requires.fresh c.args.names.now c.requires.fit c.write_report.new.lines
+    waits_now c.args.machine.now false c.requires.fresh c.args.names.now c.requires.fit c.write_report.new.lines
     c.in_ok-write_report.ensures.none_waits c.write_report.ensures.rest
 
 pub take_turns-requires-clause-end : goal.take_turns-requires-clause-end
@@ -46,9 +46,9 @@ pub returns-in_err-take_turns-clause-text : goal.returns-in_err-take_turns-claus
 returns-in_err-take_turns-clause-text g c =
     let old = c.args.machine.now in
     let now = c.write_report.new.lines in
-    let first = first_text old c.requires.fresh c.args.names.now c.requires.fit c.requires.named c.opening-report.result.kind
+    let first = first_text old false c.requires.fresh c.args.names.now c.requires.fit c.requires.named c.opening-report.result.kind
     c.opening-report.result.events.items c.opening-report.ensures.told in
-    let turns = turns_text old c.requires.fresh c.args.names.now c.requires.fit now c.in_ok-write_report.ensures.none_waits
+    let turns = turns_text old false c.requires.fresh c.args.names.now c.requires.fit now c.in_ok-write_report.ensures.none_waits
     c.write_report.ensures.rest c.args.schedule.all c.args.schedule.left c.requires.whole c.requires.named in
     stopped_at_second old c.args.schedule.all (g.S.Sink.written c.args.out.now) (g.S.Sink.written c.write_report.new.out)
     (g.S.Sink.written c.take_turns.new.out) (g.S.Sink.faults c.args.out.now) (g.S.Sink.faults c.write_report.new.out)
@@ -60,13 +60,13 @@ returns-in_err-take_turns-clause-text g c =
 
 pub write_end-requires-clause-states : goal.write_end-requires-clause-states
 write_end-requires-clause-states g c =
-    states_each c.args.machine.now c.requires.fresh c.args.names.now c.requires.fit c.write_report.new.lines
+    states_each c.args.machine.now false c.requires.fresh c.args.names.now c.requires.fit c.write_report.new.lines
     c.in_ok-write_report.ensures.none_waits c.write_report.ensures.rest c.args.schedule.all c.args.schedule.left c.requires.whole
     c.take_turns.new.machine c.in_ok-take_turns.ensures.ran (λ q. state_of (q.status, length q.levels))
 
 pub write_end-requires-clause-fit : goal.write_end-requires-clause-fit
 write_end-requires-clause-fit g c =
-    end_fits c.args.machine.now c.requires.fresh c.args.names.now c.requires.fit c.write_report.new.lines
+    end_fits c.args.machine.now false c.requires.fresh c.args.names.now c.requires.fit c.write_report.new.lines
     c.in_ok-write_report.ensures.none_waits c.write_report.ensures.rest c.args.schedule.all c.args.schedule.left c.requires.whole
     c.take_turns.new.machine c.in_ok-take_turns.ensures.ran c.opening-report.ensures.sound
 
@@ -75,11 +75,11 @@ returns-clause-text g c =
     let old = c.args.machine.now in
     let now = c.write_report.new.lines in
     let later = c.take_turns.new.machine in
-    let first = first_text old c.requires.fresh c.args.names.now c.requires.fit c.requires.named c.opening-report.result.kind
+    let first = first_text old false c.requires.fresh c.args.names.now c.requires.fit c.requires.named c.opening-report.result.kind
     c.opening-report.result.events.items c.opening-report.ensures.told in
-    let turns = turns_text old c.requires.fresh c.args.names.now c.requires.fit now c.in_ok-write_report.ensures.none_waits
+    let turns = turns_text old false c.requires.fresh c.args.names.now c.requires.fit now c.in_ok-write_report.ensures.none_waits
     c.write_report.ensures.rest c.args.schedule.all c.args.schedule.left c.requires.whole c.requires.named in
-    let ending = ending_text old c.requires.fresh c.args.names.now c.requires.fit now c.in_ok-write_report.ensures.none_waits
+    let ending = ending_text old false c.requires.fresh c.args.names.now c.requires.fit now c.in_ok-write_report.ensures.none_waits
     c.write_report.ensures.rest c.args.schedule.all c.args.schedule.left c.requires.whole later c.in_ok-take_turns.ensures.ran
     c.requires.named c.turns-turns.result c.turns-turns.ensures.all in
     written_whole old c.args.schedule.all (g.S.Sink.written c.args.out.now) (g.S.Sink.written c.write_report.new.out)
@@ -97,7 +97,7 @@ returns-in_err-take_turns-clause-work g c =
     omega (
       arith,
       c.take_turns.ensures.work,
-      work_first c.args.machine.now c.write_report.new.lines c.requires.fresh c.write_report.ensures.rest c.args.schedule.left c.args.schedule.all c.requires.whole,
+      work_first c.args.machine.now c.write_report.new.lines false c.requires.fresh c.write_report.ensures.rest c.args.schedule.left c.args.schedule.all c.requires.whole,
     )
 
 pub returns-clause-work : goal.returns-clause-work
@@ -106,7 +106,7 @@ returns-clause-work g c =
       arith,
       c.take_turns.ensures.work,
       c.write_end.ensures.work,
-      work_first c.args.machine.now c.write_report.new.lines c.requires.fresh c.write_report.ensures.rest c.args.schedule.left c.args.schedule.all c.requires.whole,
+      work_first c.args.machine.now c.write_report.new.lines false c.requires.fresh c.write_report.ensures.rest c.args.schedule.left c.args.schedule.all c.requires.whole,
     )
 
 -- So it is in the meaning of its source.

@@ -1,5 +1,5 @@
 -- The parts of a trace, and what each asks for.
-use Rattle.std.proofs.Common.{ap, length, sym, ◌∙◌, subst, arith}
+use Rattle.std.proofs.Common.{ap, false, length, sym, ◌∙◌, subst, arith}
 use Rattle.rb_outside.proofs.Puts.{puts_both, puts_same, puts_stopped_at}
 use Rattle.rb_trace.specs.Ended.{state_of}
 use Rattle.rb_code.specs.Instructions.Plain.{code as plain}
@@ -17,7 +17,7 @@ use Rattle.rb_view.proofs.trace.write_trace.Goals as goal
 pub write_told-requires-clause-steady : goal.write_told-requires-clause-steady
 write_told-requires-clause-steady g c =
     let l = loaded_from c.args.machine.now c.args.code.now _ c.requires.fresh c.requires.fit in
-    steady c.args.machine.now c.opening-report.ensures.sound (of_run_first c.args.machine.now l.fresh)
+    steady c.args.machine.now c.opening-report.ensures.sound (of_run_first c.args.machine.now false l.fresh)
 
 pub write_told-requires-clause-fit : goal.write_told-requires-clause-fit
 write_told-requires-clause-fit g c =
@@ -33,7 +33,7 @@ write_told-requires-clause-sized g c =
 pub write_told-requires-clause-waiting : goal.write_told-requires-clause-waiting
 write_told-requires-clause-waiting g c =
     let l = loaded_from c.args.machine.now c.args.code.now _ c.requires.fresh c.requires.fit in
-    lines_each c.args.machine.now l.fresh c.args.code.now.names l.fit
+    lines_each c.args.machine.now false l.fresh c.args.code.now.names l.fit
 
 -- the machine is as it was loaded
 pub take_turns-requires-clause-code : goal.take_turns-requires-clause-code
@@ -64,12 +64,12 @@ pub take_turns-requires-clause-of_run : goal.take_turns-requires-clause-of_run
 take_turns-requires-clause-of_run g c =
     let l = loaded_from c.args.machine.now c.args.code.now _ c.requires.fresh c.requires.fit in
     let same = still c.args.machine.now c.args.code.now _ l c.write_told.new.machine c.in_ok-write_told.ensures.none_waits c.write_told.ensures.rest in
-    subst IsOfRun (sym same) (of_run_first c.args.machine.now l.fresh)
+    subst IsOfRun (sym same) (of_run_first c.args.machine.now false l.fresh)
 
 pub take_turns-requires-clause-waits : goal.take_turns-requires-clause-waits
 take_turns-requires-clause-waits g c =
     let l = loaded_from c.args.machine.now c.args.code.now _ c.requires.fresh c.requires.fit in
-    waits_now c.args.machine.now l.fresh c.args.code.now.names l.fit c.write_told.new.machine c.in_ok-write_told.ensures.none_waits
+    waits_now c.args.machine.now false l.fresh c.args.code.now.names l.fit c.write_told.new.machine c.in_ok-write_told.ensures.none_waits
     c.write_told.ensures.rest
 
 pub take_turns-requires-clause-before : goal.take_turns-requires-clause-before
@@ -93,14 +93,14 @@ take_turns-requires-clause-turns g c =
 pub write_end-requires-clause-states : goal.write_end-requires-clause-states
 write_end-requires-clause-states g c =
     let l = loaded_from c.args.machine.now c.args.code.now _ c.requires.fresh c.requires.fit in
-    states_each c.args.machine.now l.fresh c.args.code.now.names l.fit c.write_told.new.machine
+    states_each c.args.machine.now false l.fresh c.args.code.now.names l.fit c.write_told.new.machine
     c.in_ok-write_told.ensures.none_waits c.write_told.ensures.rest c.args.schedule.all c.args.schedule.left c.requires.whole
     c.take_turns.new.machine c.in_ok-take_turns.ensures.ran (λ q. state_of (q.status, length q.levels))
 
 pub write_end-requires-clause-fit : goal.write_end-requires-clause-fit
 write_end-requires-clause-fit g c =
     let l = loaded_from c.args.machine.now c.args.code.now _ c.requires.fresh c.requires.fit in
-    end_fits c.args.machine.now l.fresh c.args.code.now.names l.fit c.write_told.new.machine
+    end_fits c.args.machine.now false l.fresh c.args.code.now.names l.fit c.write_told.new.machine
     c.in_ok-write_told.ensures.none_waits c.write_told.ensures.rest c.args.schedule.all c.args.schedule.left c.requires.whole
     c.take_turns.new.machine c.in_ok-take_turns.ensures.ran c.opening-report.ensures.sound
 
@@ -152,7 +152,7 @@ returns g c =
     let turns = puts_same _ _ _ _ _ _ _
     (turns_are c.args.machine.now c.args.code.now _ l c.args.places.now c.write_told.new.machine same c.args.schedule.left c.args.schedule.all
     c.requires.whole) c.in_ok-take_turns.ensures.text in
-    let ending = ending_text c.args.machine.now l.fresh c.args.code.now.names l.fit c.write_told.new.machine c.in_ok-write_told.ensures.none_waits
+    let ending = ending_text c.args.machine.now false l.fresh c.args.code.now.names l.fit c.write_told.new.machine c.in_ok-write_told.ensures.none_waits
     c.write_told.ensures.rest all c.args.schedule.left c.requires.whole later c.in_ok-take_turns.ensures.ran l.named c.turns-turns.result
     c.turns-turns.ensures.all ∙ end_is c.args.machine.now c.args.code.now _ l all in
     puts_both _ _ _ _ _ _ _ _ _ _ head

@@ -1,0 +1,2 @@
+-- What is said of the sizes of code and images.
+pub mod Laws
