@@ -21,7 +21,7 @@ use Rattle.rb_words.specs.Plain.{is_plain_word}
 use Rattle.rb_words.proofs.Leaves.{leaf, standing, turn}
 use Rattle.rb_words.proofs.Agreeing.{Agrees as AgreesFor, of_named, one_agrees, refused, three_agrees, two_agrees}
 use Rattle.rb_words.proofs.Agreeing as agreeing
-use Rattle.rb_stages.specs.Words.{Request, analyse_of, check_of, code_of, compile_of, forms, load_of, named_in, plain_of, request_of, run_of, session_of, survey_of, survive_of, trial_number, trial_of}
+use Rattle.rb_verdict.specs.Words.{Request, analyse_of, check_of, code_of, compile_of, forms, load_of, named_in, plain_of, request_of, run_of, session_of, survey_of, survive_of, trial_number, trial_of}
 use Rattle.rb_commands.specs.CommandLine.{program, request_given, trial_given}
 
 -- the program is one of which `clap` says all

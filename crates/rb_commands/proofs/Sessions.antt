@@ -1,9 +1,9 @@
--- A session: the schedule and the session that are read after an accepted source, and what they come to.
-use Rattle.std.proofs.Common.{◌≡◌, ℕ, ◌<◌, ◌≤◌, List, [], ◌∷◌, drop, length, Option, Ok, Err, refl, sym, ap, subst, ◌∙◌, arith}
+-- What `session` makes of a source, a schedule for it and a session.
+use Rattle.std.proofs.Common.{◌≡◌, ℕ, ◌<◌, ◌≤◌, List, [], ◌∷◌, ◌++◌, length, Option, Bor, IfOk, Result, Ok, Err, refl, sym, ap, subst, ◌∙◌, arith}
 use Rattle.rb_base.specs.Naming.{process_names}
 use Rattle.rb_base.specs.declared.fault.TextFault.{TextFault}
 use Rattle.rb_base.specs.declared.limits.TheConstants.{MOST_BYTES}
-use Rattle.rb_outside.specs.Outside.{File, Faults, Start}
+use Rattle.rb_outside.specs.Outside.{Faults}
 use Rattle.rb_syntax.specs.Tree.{Tree}
 use Rattle.rb_code.specs.Instructions.Plain.{code}
 use Rattle.rb_conv.specs.Conversations.{memberships, opening}
@@ -13,153 +13,155 @@ use Rattle.rb_prepare.specs.declared.preparing.Prepared.{Prepared}
 use Rattle.rb_back.specs.declared.order.Order.{Order}
 use Rattle.rb_back.specs.Script.{script_of}
 use Rattle.rb_back.specs.Shown.{session_text, tree_session_text}
-use Rattle.rb_stages.specs.Words.{Session, session_of, text_named}
-use Rattle.rb_stages.specs.Answers.{WithRequest}
-use Rattle.rb_stages.specs.Read.{WasReadIn}
-use Rattle.rb_stages.specs.Stages.{EndsForSession, HasSource, HasTurns, StageEnds, WritingStageEnds}
-use Rattle.rb_stages.specs.Judgement.{Accepted, Judgement, Judges, ReadsOn, RefusedWith, SessionGoesOn, Writes, bad_schedule, bad_session, long_schedule, long_session, names_of, reads_session, reads_turns, session_refused, shows, first_accepted, text_line, too_long_line, turns_refused}
-use Rattle.rb_stages.specs.declared.status.Status.{Status}
-use Rattle.rb_stages.proofs.Answering.{AreStarts, next_written, read_before, reads_text, showing}
-use Rattle.rb_stages.proofs.Loaded.{session_as_meant}
-use Rattle.rb_commands.proofs.Scheduled.{names_are}
-use Rattle.rb_stages.proofs.Sources.{second_judged, second_wanted}
+use Rattle.rb_hall.specs.declared.command.Stop.{Stop}
+use Rattle.rb_hall.specs.declared.command.Stop.TheVariants as stop
+use Rattle.rb_hall.specs.declared.command.Unwritten.{Unwritten}
+use Rattle.rb_hall.specs.declared.fault.Fault.{Fault}
+use Rattle.rb_hall.specs.declared.fault.Fault.TheVariants as of
+use Rattle.rb_hall.specs.Ends.{HoldsOn, IfRefused, Refuses, WriteEnds}
+use Rattle.rb_hall.specs.Judgement.{Judgement, ReadsOn, RefusedWith, Wants, Writes}
+use Rattle.rb_hall.proofs.Ends.{ends_as}
+use Rattle.rb_verdict.specs.Judging.{Judges, SessionGoesOn, at_first, first_accepted, first_refused, reads_session, reads_turns, session_refused, shows, turns_refused}
+use Rattle.rb_verdict.specs.Texts.{ListsTurns, SourceRefused, bad_schedule, bad_session, names_of}
+use Rattle.rb_verdict.specs.Words.{Session, text_named}
+use Rattle.rb_commands.specs.Explained.{ExplainsProgram, NamesOfSource, of_program, of_text}
+use Rattle.rb_commands.specs.Held.{HasTurns, HoldsSession, TakesTurns}
+use Rattle.rb_commands.specs.Written.{EndsSession, KnowsNames}
+use Rattle.rb_commands.specs.declared.session.Shown.{Shown}
+use Rattle.rb_commands.specs.declared.session.Shown.TheVariants as shown
+use Rattle.rb_commands.specs.declared.why.Why.{Why}
+use Rattle.rb_commands.specs.declared.why.Why.TheVariants as why
+use Rattle.rb_commands.proofs.Loaded.{session_as_meant}
+use Rattle.rb_commands.proofs.Scheduled.{its_names, listed_for, names_are}
+use Rattle.rb_commands.proofs.Taken.{refused_as}
 
--- what shows that a schedule is too long shows it of all of it
-long_turns : (tree : Tree) (bytes text : List ℕ) → MOST_BYTES < length bytes → MOST_BYTES < length text → (j : Judgement)
-    → SessionGoesOn tree (bytes ∷ []) j → SessionGoesOn tree (text ∷ []) j
-long_turns tree bytes text long longer j (turns_refused schedule line (long_schedule many e)) = turns_refused text line (long_schedule longer e)
-long_turns tree bytes text long longer j (turns_refused schedule line (bad_schedule fault short bad e)) = absurd (omega (arith, long, short))
-long_turns tree bytes text long longer j (reads_session schedule turns lists) = let short = lists.short in absurd (omega (arith, long, short))
+abbrev files : List ℕ → List ℕ → List ℕ → List Wants
+files a b c = text_named a ∷ text_named b ∷ text_named c ∷ []
 
--- and of a session
-long_sessions : (tree : Tree) (schedule bytes text : List ℕ) → MOST_BYTES < length bytes → MOST_BYTES < length text → (j : Judgement)
-    → SessionGoesOn tree (schedule ∷ bytes ∷ []) j → SessionGoesOn tree (schedule ∷ text ∷ []) j
-long_sessions tree schedule bytes text long longer j (session_refused before turns session line lists (long_session many e)) =
-    session_refused schedule turns text line lists (long_session longer e)
-long_sessions tree schedule bytes text long longer j (session_refused before turns session line lists (bad_session fault short bad e)) =
-    absurd (omega (arith, long, short))
-long_sessions tree schedule bytes text long longer j (shows before turns session written lists shown) =
-    let short = shown.short in absurd (omega (arith, long, short))
+-- ---- the source is the first text
 
--- the source was read before the schedule
-pub source_before : (files : Option (List File)) (source schedule session : List ℕ) (prepared : Prepared) (mid now : List Start)
-    → AreStarts files (drop 1 now) mid
-    → HasSource files (session_of source schedule session) (λ bytes. IsPrepared bytes prepared) (text_named schedule ∷ text_named session ∷ [])
-    (drop 1 mid) mid
-    → HasSource files (session_of source schedule session) (λ bytes. IsPrepared bytes prepared) (text_named schedule ∷ text_named session ∷ [])
-    (drop 1 (drop 1 now)) (drop 1 now)
-source_before files source schedule session prepared mid now same has = record {
-  source = has.source;
-  short = has.short;
-  accepted = has.accepted;
-  read =
-      read_before files (session_of source schedule session) (has.source ∷ []) (text_named schedule ∷ text_named session ∷ []) mid now same has.read;
-}
+pub source_taken : (a b c text : List ℕ) (prepared : Prepared) → IsPrepared text prepared → (texts : List (List ℕ)) → HoldsSession texts shown.Nothing
+    → HoldsOn (Judges Session) (files a b c) HoldsSession (texts ++ text ∷ []) (shown.Program prepared)
+source_taken a b c text prepared is texts none =
+    subst (λ (ts : List (List ℕ)). HoldsOn (Judges Session) (files a b c) HoldsSession (ts ++ text ∷ []) (shown.Program prepared)) (sym none)
+    ((text, refl, is), λ more. first_accepted text is.tree [] ReadsOn is.accepted reads_turns)
 
--- ---- the schedule
+pub source_not_taken : (text : List ℕ) (stop : Stop Why)
+    → IfRefused {T = Prepared} (Err stop) (λ fault known. SourceRefused text fault × (known ≡ why.Plain))
+    → IfRefused {T = Shown} (Err stop) (λ fault known. (texts : List (List ℕ)) → HoldsSession texts shown.Nothing
+    → Refuses (Judges Session) (ExplainsProgram NamesOfSource) (texts ++ text ∷ []) fault known)
+source_not_taken text stop refused =
+    refused_as Prepared Shown (λ fault known. SourceRefused text fault × (known ≡ why.Plain))
+    (λ fault known. (texts : List (List ℕ)) → HoldsSession texts shown.Nothing
+    → Refuses (Judges Session) (ExplainsProgram NamesOfSource) (texts ++ text ∷ []) fault known)
+    stop said refused
+  where
+    said : (fault : Fault) (known : Why) → SourceRefused text fault × (known ≡ why.Plain) → (texts : List (List ℕ)) → HoldsSession texts shown.Nothing
+        → Refuses (Judges Session) (ExplainsProgram NamesOfSource) (texts ++ text ∷ []) fault known
+    said fault known (bad, plain) texts none =
+        subst (λ (ts : List (List ℕ)). Refuses (Judges Session) (ExplainsProgram NamesOfSource) (ts ++ text ∷ []) fault known) (sym none)
+        (first_refused text fault bad, subst (ExplainsProgram NamesOfSource (text ∷ []) fault) (sym plain) (of_program text fault))
 
-module _ (files : Option (List File)) (source schedule session : List ℕ) (prepared : Prepared) (old mid : List Start)
-    (has : HasSource files (session_of source schedule session) (λ bytes. IsPrepared bytes prepared)
-    (text_named schedule ∷ text_named session ∷ []) old mid) where
-  accepted_source : Accepted has.source has.accepted.tree
-  accepted_source = record { short = has.short; accepted = has.accepted.accepted }
+-- ---- the schedule is the second
 
-  pub turns_wanted : Judges Session (has.source ∷ []) ReadsOn
-  turns_wanted = second_wanted SessionGoesOn Session (λ texts j h. h) has.source has.accepted.tree accepted_source reads_turns
+module _ (source : List ℕ) (prepared : Prepared) (accepted : IsPrepared source prepared) where
+  -- it lists so many turns
+  pub turns_listed : (schedule : Bor (List ℕ)) (turns : List ℕ) (many : ℕ) → schedule_of (process_names prepared.code.names) schedule.now ≡ Ok turns
+      → many ≡ length turns
+      → HoldsSession (source ∷ schedule.now ∷ []) (shown.Turns prepared schedule many) × Judges Session (source ∷ schedule.now ∷ []) ReadsOn
+  turns_listed schedule turns many listed as_many = (
+    (source, refl, accepted, (turns, listed, as_many)),
+    first_accepted source accepted.tree (schedule.now ∷ []) ReadsOn accepted.accepted
+        (reads_session schedule.now turns (listed_for source prepared accepted schedule.now (Ok turns) listed)),
+  )
 
-  -- each answer where the call ends with it
-  pub turns_answered : (others : Option (List File)) (now : List Start) (bytes : List ℕ) (r0 r1 f0 f1 : Faults)
-      (w0 w1 : Option (List ℕ)) (status : Status) →
-      WasReadIn files schedule MOST_BYTES bytes mid now → r1.count ≡ r0.count
-      → StageEnds (SessionGoesOn has.accepted.tree (bytes ∷ [])) w0 w1 f0 f1 status →
-      WithRequest (session_of source schedule session) (record { files = files; starts = old; read_faults = r0; written = w0; write_faults = f0 })
-      (record { files = others; starts = now; read_faults = r1; written = w1; write_faults = f1 }) status
-  turns_answered others now bytes r0 r1 f0 f1 w0 w1 status was well =
-      second_judged SessionGoesOn Session (λ texts j h. h) has.source has.accepted.tree accepted_source reads_turns
-      files others source schedule (text_named session ∷ []) old mid now bytes r0 r1 f0 f1 w0 w1 status has.read was well
-      (long_turns has.accepted.tree bytes)
+  -- or it has a fault
+  pub turns_not_listed : (schedule : List ℕ) (fault : TextFault) → schedule_of (process_names prepared.code.names) schedule ≡ Err fault
+      → Refuses (Judges Session) (ExplainsProgram NamesOfSource) (source ∷ schedule ∷ []) (of.Text fault) (why.Names prepared.code.names)
+  turns_not_listed schedule fault bad = (
+    first_accepted source accepted.tree (schedule ∷ []) (RefusedWith (of.Text fault)) accepted.accepted
+        (turns_refused schedule (of.Text fault) (bad_schedule fault (listed_for source prepared accepted schedule (Err fault) bad))),
+    of_text source schedule [] (of.Text fault) prepared.code.names (its_names source prepared accepted),
+  )
 
-  its_names : (bytes : List ℕ) → schedule_of (names_of has.accepted.tree) bytes ≡ schedule_of (process_names prepared.code.names) bytes
-  its_names bytes = ap (λ (names : List (List ℕ)). schedule_of names bytes) (sym (names_are has.source prepared has.accepted))
+-- which the command then holds
+module _ (schedule : List ℕ) (prepared : Prepared) where
+  held_after : (a b c : List ℕ) (next : Shown) → ((source : List ℕ) → IsPrepared source prepared → TakesTurns source schedule (Ok next))
+      → (texts : List (List ℕ)) → HoldsSession texts (shown.Program prepared)
+      → HoldsOn (Judges Session) (files a b c) HoldsSession (texts ++ schedule ∷ []) next
+  held_after a b c next takes texts (source, e, is) =
+      subst (λ (ts : List (List ℕ)). HoldsOn (Judges Session) (files a b c) HoldsSession (ts ++ schedule ∷ []) next) (sym e)
+      ((takes source is).0, λ more. (takes source is).1)
 
-  -- it has a fault
-  pub turns_at_fault : (bytes : List ℕ) (fault : TextFault) → length bytes ≤ MOST_BYTES
-      → schedule_of (process_names prepared.code.names) bytes ≡ Err fault
-      → SessionGoesOn has.accepted.tree (bytes ∷ []) (RefusedWith (text_line fault))
-  turns_at_fault bytes fault short bad = turns_refused bytes (text_line fault) (bad_schedule fault short (its_names bytes ∙ bad) refl)
+  refused_after : (fault : Fault) (known : Why)
+      → ((source : List ℕ) → IsPrepared source prepared → TakesTurns source schedule (Err (stop.Refused fault known)))
+      → (texts : List (List ℕ)) → HoldsSession texts (shown.Program prepared)
+      → Refuses (Judges Session) (ExplainsProgram NamesOfSource) (texts ++ schedule ∷ []) fault known
+  refused_after fault known takes texts (source, e, is) =
+      subst (λ (ts : List (List ℕ)). Refuses (Judges Session) (ExplainsProgram NamesOfSource) (ts ++ schedule ∷ []) fault known) (sym e)
+      (takes source is)
 
-  -- or is too long
-  pub turns_too_many : (bytes : List ℕ) → MOST_BYTES < length bytes → SessionGoesOn has.accepted.tree (bytes ∷ []) (RefusedWith too_long_line)
-  turns_too_many bytes long = turns_refused bytes too_long_line (long_schedule long refl)
+  pub turns_held : (a b c : List ℕ) (result : Result Shown (Stop Why))
+      → ((source : List ℕ) → IsPrepared source prepared → TakesTurns source schedule result)
+      → IfOk result (λ next. (texts : List (List ℕ)) → HoldsSession texts (shown.Program prepared)
+      → HoldsOn (Judges Session) (files a b c) HoldsSession (texts ++ schedule ∷ []) next)
+  turns_held a b c (Ok next) takes = held_after a b c next takes
+  turns_held a b c (Err stopped) takes = tt
 
-  -- or it lists turns
-  pub turns_had : (now : List Start) (bytes turns : List ℕ) → WasReadIn files schedule MOST_BYTES bytes mid now → length bytes ≤ MOST_BYTES
-      → schedule_of (process_names prepared.code.names) bytes ≡ Ok turns
-      → HasTurns files (session_of source schedule session) prepared turns (text_named session ∷ []) old now
-  turns_had now bytes turns was short listed = record {
-    source = has.source;
-    schedule = bytes;
-    short = has.short;
-    accepted = has.accepted;
-    lists = record { short = short; listed = its_names bytes ∙ listed };
-    read =
-        reads_text files (session_of source schedule session) (has.source ∷ []) (text_named schedule) (text_named session ∷ []) old mid now bytes
-        has.read turns_wanted was short;
-  }
+  pub turns_not_held : (result : Result Shown (Stop Why))
+      → ((source : List ℕ) → IsPrepared source prepared → TakesTurns source schedule result)
+      → IfRefused result (λ fault known. (texts : List (List ℕ)) → HoldsSession texts (shown.Program prepared)
+      → Refuses (Judges Session) (ExplainsProgram NamesOfSource) (texts ++ schedule ∷ []) fault known)
+  turns_not_held (Ok next) takes = tt
+  turns_not_held (Err (stop.Refused fault known)) takes = refused_after fault known takes
+  turns_not_held (Err stop.Memory) takes = tt
 
--- ---- the session
+-- the session is the third, and still to be judged
+pub session_taken : (a b c : List ℕ) (schedule : Bor (List ℕ)) (turns : ℕ) (text : Bor (List ℕ)) (prepared : Prepared) → length text.now ≤ MOST_BYTES
+    → (texts : List (List ℕ)) → HoldsSession texts (shown.Turns prepared schedule turns)
+    → HoldsOn (Judges Session) (files a b c) HoldsSession (texts ++ text.now ∷ []) (shown.All prepared schedule turns text)
+session_taken a b c schedule turns text prepared short texts (source, e, is, had) =
+    subst (λ (ts : List (List ℕ)). HoldsOn (Judges Session) (files a b c) HoldsSession (ts ++ text.now ∷ []) (shown.All prepared schedule turns text))
+    (sym e) ((source, refl, is, had, short), λ more. absurd (omega (arith, more)))
 
-module _ (files : Option (List File)) (source schedule session : List ℕ) (prepared : Prepared) (turns : List ℕ) (old mid : List Start)
-    (has : HasTurns files (session_of source schedule session) prepared turns (text_named session ∷ []) old mid) where
-  accepted_there : Accepted has.source has.accepted.tree
-  accepted_there = record { short = has.short; accepted = has.accepted.accepted }
+-- ---- all were read
 
-  judges_session : (text : List ℕ) (j : Judgement) → SessionGoesOn has.accepted.tree (has.schedule ∷ text ∷ []) j
-      → Judges Session (has.source ∷ has.schedule ∷ text ∷ []) j
-  judges_session text j h = first_accepted has.source has.accepted.tree (has.schedule ∷ text ∷ []) j accepted_there h
+module _ (source : List ℕ) (prepared : Prepared) (accepted : IsPrepared source prepared) (schedule session turns : List ℕ)
+    (listed : schedule_of (process_names prepared.code.names) schedule ≡ Ok turns) where
+  lists : ListsTurns accepted.tree schedule turns
+  lists = listed_for source prepared accepted schedule (Ok turns) listed
 
-  pub session_wanted : Judges Session (has.source ∷ has.schedule ∷ []) ReadsOn
-  session_wanted =
-      first_accepted has.source has.accepted.tree (has.schedule ∷ []) ReadsOn accepted_there (reads_session has.schedule turns has.lists)
+  scripted : script_of (names_of accepted.tree) (length turns) session ≡ script_of (process_names prepared.code.names) (length turns) session
+  scripted = ap (λ (names : List (List ℕ)). script_of names (length turns) session) (sym (names_are source prepared accepted))
 
-  -- each answer of a stage that judges it by what was read of it
-  pub session_answered : (others : Option (List File)) (now : List Start) (bytes : List ℕ) (r0 r1 f0 f1 : Faults)
-      (w0 w1 : Option (List ℕ)) (status : Status) →
-      WasReadIn files session MOST_BYTES bytes mid now → r1.count ≡ r0.count
-      → WritingStageEnds (EndsForSession prepared turns bytes) w0 w1 f0 f1 status →
-      WithRequest (session_of source schedule session) (record { files = files; starts = old; read_faults = r0; written = w0; write_faults = f0 })
-      (record { files = others; starts = now; read_faults = r1; written = w1; write_faults = f1 }) status
-  session_answered others now bytes r0 r1 f0 f1 w0 w1 status was well =
-      next_written files others (session_of source schedule session) (has.source ∷ has.schedule ∷ []) (text_named session) [] old mid now bytes
-      r0 r1 f0 f1 w0 w1 status (EndsForSession prepared turns bytes) has.read session_wanted was well
-      (λ short j h. judges_session bytes j (h has.source has.accepted has.schedule has.lists))
-      (λ long text longer j h. judges_session text j
-      (long_sessions has.accepted.tree has.schedule bytes text long longer j (h has.source has.accepted has.schedule has.lists)))
-      showing
+  -- the session has a fault
+  pub orders_refused : (fault : TextFault) → script_of (process_names prepared.code.names) (length turns) session ≡ Err fault
+      → SessionGoesOn accepted.tree (schedule ∷ session ∷ []) (RefusedWith (of.Text fault))
+  orders_refused fault bad = session_refused schedule turns session (of.Text fault) lists (bad_session fault (scripted ∙ bad))
 
--- ---- what a session comes to
+  -- or its orders are followed
+  pub orders_followed : (orders : List Order) → script_of (process_names prepared.code.names) (length turns) session ≡ Ok orders
+      → SessionGoesOn accepted.tree (schedule ∷ session ∷ [])
+      (Writes (session_text (code prepared.code) (memberships (opening prepared.nested)) turns orders))
+  orders_followed orders given =
+      shows schedule turns session (session_text (code prepared.code) (memberships (opening prepared.nested)) turns orders) lists
+      (record { orders = orders; listed = scripted ∙ given; is = session_as_meant source prepared accepted turns orders })
 
-module _ (prepared : Prepared) (turns session : List ℕ) where
-  pub session_too_long : MOST_BYTES < length session → EndsForSession prepared turns session (RefusedWith too_long_line)
-  session_too_long long source accepted schedule lists = session_refused schedule turns session too_long_line lists (long_session long refl)
-
-  module _ (short : length session ≤ MOST_BYTES) where
-    told : (source : List ℕ) (accepted : IsPrepared source prepared)
-        → script_of (names_of accepted.tree) (length turns) session ≡ script_of (process_names prepared.code.names) (length turns) session
-    told source accepted = ap (λ (names : List (List ℕ)). script_of names (length turns) session) (sym (names_are source prepared accepted))
-
-    pub session_at_fault : (fault : TextFault) → script_of (process_names prepared.code.names) (length turns) session ≡ Err fault
-        → EndsForSession prepared turns session (RefusedWith (text_line fault))
-    session_at_fault fault bad source accepted schedule lists =
-        session_refused schedule turns session (text_line fault) lists (bad_session fault short (told source accepted ∙ bad) refl)
-
-    -- its orders are followed
-    pub session_followed : (orders : List Order) → script_of (process_names prepared.code.names) (length turns) session ≡ Ok orders
-        → (judgement : Judgement) → judgement ≡ Writes (session_text (code prepared.code) (memberships (opening prepared.nested)) turns orders)
-        → EndsForSession prepared turns session judgement
-    session_followed orders given judgement written source accepted schedule lists =
-        let text = tree_session_text accepted.tree turns orders in
-        let is : judgement ≡ Writes text = written ∙ ap Writes (session_as_meant source prepared accepted turns orders) in
-        subst (SessionGoesOn accepted.tree (schedule ∷ session ∷ [])) (sym is)
-        (shows schedule turns session text lists
-        (record { orders = orders; short = short; listed = told source accepted ∙ given; is = refl }))
+pub all_end : (prepared : Prepared) (schedule : Bor (List ℕ)) (turns : ℕ) (session : Bor (List ℕ)) (old new : Option (List ℕ)) (before after : Faults)
+    (result : Result (Unit {0}) (Unwritten Why))
+    → ((source : List ℕ) (accepted : IsPrepared source prepared) → EndsSession source accepted.tree schedule.now session.now old new before after result)
+    → (texts : List (List ℕ)) → HoldsSession texts (shown.All prepared schedule turns session)
+    → WriteEnds (Judges Session texts) (ExplainsProgram NamesOfSource texts) (Unit {0}) old new before after result
+all_end prepared schedule turns session old new before after result ends texts (source, e, is, had, short) =
+    subst (λ (ts : List (List ℕ)). WriteEnds (Judges Session ts) (ExplainsProgram NamesOfSource ts) (Unit {0}) old new before after result) (sym e)
+    (ends_as (SessionGoesOn is.tree (schedule.now ∷ session.now ∷ [])) (Judges Session (source ∷ schedule.now ∷ session.now ∷ []))
+    (KnowsNames (NamesOfSource source)) (ExplainsProgram NamesOfSource (source ∷ schedule.now ∷ session.now ∷ [])) (Unit {0}) (Unit {0})
+    old new before after result
+    (λ j h. first_accepted source is.tree (schedule.now ∷ session.now ∷ []) j is.accepted h)
+    known_of (λ may. may) (ends source is))
+  where
+    known_of : (fault : Fault) (known : Why) → KnowsNames (NamesOfSource source) fault known
+        → ExplainsProgram NamesOfSource (source ∷ schedule.now ∷ session.now ∷ []) fault known
+    known_of fault known (names, is_names, so) =
+        subst (ExplainsProgram NamesOfSource (source ∷ schedule.now ∷ session.now ∷ []) fault) (sym is_names)
+        (of_text source schedule.now (session.now ∷ []) fault names so)

@@ -1,5 +1,5 @@
 -- A program that was loaded, has taken the turns of a schedule and was surveyed: what is written of it is how its code stands.
-use Rattle.std.proofs.Common.{◌≡◌, ◌≤◌, ℕ, ◌+◌, List, [], length, replicate, refl, sym, ap, ◌∙◌, arith}
+use Rattle.std.proofs.Common.{◌≡◌, ◌≤◌, ℕ, ◌+◌, false, List, [], length, replicate, refl, sym, ap, ◌∙◌, arith}
 use Rattle.std.proofs.lemmas.List.{length-map}
 use Rattle.rb_base.specs.Limits.{most_processes}
 use Rattle.rb_base.specs.declared.edition.Edition.{Edition}
@@ -25,7 +25,7 @@ use Rattle.rb_stuck.specs.declared.standing.Standing.{Standing}
 use Rattle.rb_stuck.specs.declared.standing.Standing.TheVariants.{Stuck}
 use Rattle.rb_stuck.proofs.Still.Stays.{as_many}
 use Rattle.rb_stuck.proofs.Told.{text_stands}
-use Rattle.rb_stages.proofs.Loaded.{code_names_fit, is_sound}
+use Rattle.rb_commands.proofs.Loaded.{code_names_fit, is_sound}
 
 most_of_both : (edition : Edition) → most_processes edition ≤ MOST_PROCESSES_SECOND
 most_of_both First = omega arith
@@ -40,10 +40,10 @@ module _ (source : List ℕ) (prepared : Prepared) (accepted : IsPrepared source
 
   module _ (most : ℕ) where
     abbrev loaded : Seen
-    loaded = opening_seen its_code groups most
+    loaded = opening_seen its_code groups false most
 
     each_named : length prepared.code.names.processes.items ≡ length loaded.world.processes
-    each_named = names_each loaded refl prepared.code.names (code_names_fit source prepared accepted)
+    each_named = names_each loaded false refl prepared.code.names (code_names_fit source prepared accepted)
 
     each_coded : length loaded.world.processes ≡ length its_code.processes
     each_coded = length-map (opening_standings 0 its_code.processes) _ ∙ length-opening 0 its_code.processes

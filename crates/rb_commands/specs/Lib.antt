@@ -1,3 +1,7 @@
 pub mod Asked
 pub mod CommandLine
-pub mod Laws
+pub mod Explained
+pub mod Held
+pub mod Products
+pub mod Requests
+pub mod Written

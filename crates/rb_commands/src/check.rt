@@ -1,43 +1,89 @@
-//! The command `check`.
-ghost use Rattle.std.specs.Prelude.{◌≡◌, [], ◌∷◌};
-ghost use Rattle.rb_stages.specs.Words.{check_of};
-ghost use Rattle.rb_stages.specs.Answers.{scene_of, WithRequest};
-ghost use Rattle.rb_stages.specs.Judgement.{JudgesSource, CheckGoesOn};
-ghost use Rattle.rb_stages.specs.Stages.{StageEnds};
+//! The command `check`: a source is read, and is accepted or refused.
+ghost use Rattle.std.specs.Prelude.{◌≡◌, ◌≤◌, [], ◌∷◌, length, ℕ, List};
+ghost use Rattle.rb_hall.specs.Ends.{HoldsOn, IfRefused, WriteEnds};
+ghost use Rattle.rb_verdict.specs.Judging.{Judges};
+ghost use Rattle.rb_verdict.specs.Words.{Check as Checking, text_named};
+ghost use Rattle.rb_commands.specs.Explained.{ExplainsSource};
+ghost use Rattle.rb_commands.specs.Held.{HoldsChecked};
 
-use crate::source::judged_source;
+use crate::source::judge_source;
+use crate::why::Why;
 use rb_base::MOST_BYTES;
-use rb_outside::{Shelf, Sink};
-use rb_stages::read::read_file;
-use rb_stages::refuse::put_accepted;
-use rb_stages::status::{Status, status_after};
+use rb_hall::{Command, Stop, Unwritten, Wanted, Written};
+use rb_outside::{Memory, Sink, put_all};
 use std::alloc::Global;
 
-/// Reads a source and judges it.
-pub fn check_file<F: Shelf, S: Sink>(
-    alloc: Global,
-    source: &str,
-    shelf: &mut F,
-    out: &mut S,
-) -> Status
-    ensures files { F.files shelf.new ≡ F.files shelf.old }
-    ensures answers { WithRequest (check_of source.now)
-        (scene_of F.files F.starts F.faults S.written S.faults shelf.old out.old)
-        (scene_of F.files F.starts F.faults S.written S.faults shelf.new out.new)
-        result }
-{
-    match read_file(alloc, shelf, source, MOST_BYTES) {
-        Ok(bytes) => check_source(alloc, bytes.as_slice(), out),
-        Err(unread) => unread.status(),
+/// `check SOURCE`.
+#[derive(Clone, Copy)]
+pub struct Check<'a> {
+    pub source: &'a str,
+}
+
+/// What `check` holds.
+#[derive(Clone, Copy)]
+pub enum Checked {
+    Nothing,
+    Accepted,
+}
+
+impl<'s> Command<'s> for Check<'_> {
+    type Held = Checked;
+
+    type Why = Why;
+
+    ghost wanted = { λ c. text_named c.source.now ∷ [] };
+
+    ghost judges = { λ _. Judges Checking };
+
+    ghost explains = { λ _. ExplainsSource };
+
+    ghost holds = { λ _. HoldsChecked };
+
+    ghost takes = { λ _. ⊥ };
+
+    fn file(&self, number: usize) -> Option<Wanted<'_>> {
+        match number {
+            0 => Some(Wanted {
+                name: self.source,
+                most: MOST_BYTES,
+            }),
+            _ => None,
+        }
+    }
+
+    fn begin(&self, _alloc: Global) -> Result<Checked, Memory> {
+        Ok(Checked::Nothing)
+    }
+
+    fn take(&self, alloc: Global, held: Checked, text: &'s [u8]) -> Result<Checked, Stop<Why>> {
+        match held {
+            Checked::Nothing => match judge_source(alloc, text) {
+                Ok(_) => Ok(Checked::Accepted),
+                Err(stop) => Err(stop),
+            },
+            Checked::Accepted => unreachable!(),
+        }
+    }
+
+    fn write<S: Sink + Drop>(&self, alloc: Global, held: Checked, out: S) -> Written<S, Why> {
+        let mut sink = out;
+        let ended = self.put(alloc, held, &mut sink);
+        Written { sink, ended }
     }
 }
 
-fn check_source<S: Sink>(alloc: Global, bytes: &[u8], out: &mut S) -> Status
-    ensures { StageEnds (JudgesSource CheckGoesOn (bytes.now ∷ [])) (S.written out.old) (S.written out.new)
-        (S.faults out.old) (S.faults out.new) result }
-{
-    if let Err(status) = judged_source(alloc, bytes, out) {
-        return status;
+impl Check<'_> {
+    // Writes its text.
+    fn put<S: Sink>(&self, _alloc: Global, held: Checked, out: &mut S) -> Result<(), Unwritten<Why>>
+        requires { (texts : List (List ℕ)) × (length texts ≡ 1) × HoldsChecked texts held }
+        ensures { (texts : List (List ℕ)) → length texts ≡ 1 → HoldsChecked texts held
+            → WriteEnds (Judges Checking texts) (ExplainsSource texts) ⊥ (S.written out.old) (S.written out.new) (S.faults out.old)
+            (S.faults out.new) result }
+    {
+        let _ = held;
+        match put_all(out, b"accepted\n") {
+            Ok(()) => Ok(()),
+            Err(_) => Err(Unwritten::Fault),
+        }
     }
-    status_after(put_accepted(out), Status::Done)
 }

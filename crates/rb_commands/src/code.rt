@@ -1,43 +1,87 @@
-//! The command `code`.
-ghost use Rattle.std.specs.Prelude.{◌≡◌, [], ◌∷◌};
-ghost use Rattle.rb_stages.specs.Words.{code_of};
-ghost use Rattle.rb_stages.specs.Answers.{scene_of, WithRequest};
-ghost use Rattle.rb_stages.specs.Judgement.{JudgesSource, CodeGoesOn};
-ghost use Rattle.rb_stages.specs.Stages.{StageEnds};
+//! The command `code`: a source is read, and its code is listed.
+ghost use Rattle.std.specs.Prelude.{◌≡◌, ◌≤◌, [], ◌∷◌, length, ℕ, List};
+ghost use Rattle.rb_hall.specs.Ends.{HoldsOn, IfRefused, WriteEnds};
+ghost use Rattle.rb_verdict.specs.Judging.{Judges};
+ghost use Rattle.rb_verdict.specs.Words.{ListCode, text_named};
+ghost use Rattle.rb_commands.specs.Explained.{ExplainsSource};
+ghost use Rattle.rb_commands.specs.Held.{HoldsCompiled};
 
-use crate::source::prepared_source;
+use crate::source::{Compiled, take_source};
+use crate::why::Why;
 use rb_base::MOST_BYTES;
 use rb_code::listing::listing;
-use rb_outside::{Shelf, Sink};
-use rb_stages::read::read_file;
-use rb_stages::status::{Status, status_after};
+use rb_hall::{Command, Stop, Unwritten, Wanted, Written};
+use rb_outside::{Memory, Sink};
 use std::alloc::Global;
 
-/// Reads a source, judges it, and lists its code.
-pub fn code_file<F: Shelf, S: Sink>(
-    alloc: Global,
-    source: &str,
-    shelf: &mut F,
-    out: &mut S,
-) -> Status
-    ensures files { F.files shelf.new ≡ F.files shelf.old }
-    ensures answers { WithRequest (code_of source.now)
-        (scene_of F.files F.starts F.faults S.written S.faults shelf.old out.old)
-        (scene_of F.files F.starts F.faults S.written S.faults shelf.new out.new)
-        result }
-{
-    match read_file(alloc, shelf, source, MOST_BYTES) {
-        Ok(bytes) => code_source(alloc, bytes.as_slice(), out),
-        Err(unread) => unread.status(),
+/// `code SOURCE`.
+#[derive(Clone, Copy)]
+pub struct Code<'a> {
+    pub source: &'a str,
+}
+
+impl<'s> Command<'s> for Code<'_> {
+    type Held = Compiled;
+
+    type Why = Why;
+
+    ghost wanted = { λ c. text_named c.source.now ∷ [] };
+
+    ghost judges = { λ _. Judges ListCode };
+
+    ghost explains = { λ _. ExplainsSource };
+
+    ghost holds = { λ _. HoldsCompiled };
+
+    ghost takes = { λ _. ⊥ };
+
+    fn file(&self, number: usize) -> Option<Wanted<'_>> {
+        match number {
+            0 => Some(Wanted {
+                name: self.source,
+                most: MOST_BYTES,
+            }),
+            _ => None,
+        }
+    }
+
+    fn begin(&self, _alloc: Global) -> Result<Compiled, Memory> {
+        Ok(Compiled::Nothing)
+    }
+
+    fn take(&self, alloc: Global, held: Compiled, text: &'s [u8]) -> Result<Compiled, Stop<Why>> {
+        match held {
+            Compiled::Nothing => take_source(alloc, text),
+            Compiled::Program(_) => unreachable!(),
+        }
+    }
+
+    fn write<S: Sink + Drop>(&self, alloc: Global, held: Compiled, out: S) -> Written<S, Why> {
+        let mut sink = out;
+        let ended = self.put(alloc, held, &mut sink);
+        Written { sink, ended }
     }
 }
 
-fn code_source<S: Sink>(alloc: Global, bytes: &[u8], out: &mut S) -> Status
-    ensures { StageEnds (JudgesSource CodeGoesOn (bytes.now ∷ [])) (S.written out.old) (S.written out.new)
-        (S.faults out.old) (S.faults out.new) result }
-{
-    match prepared_source(alloc, bytes, out) {
-        Ok(prepared) => status_after(listing(&prepared.code, out), Status::Done),
-        Err(status) => status,
+impl Code<'_> {
+    // Writes its text.
+    fn put<S: Sink>(
+        &self,
+        _alloc: Global,
+        held: Compiled,
+        out: &mut S,
+    ) -> Result<(), Unwritten<Why>>
+        requires { (texts : List (List ℕ)) × (length texts ≡ 1) × HoldsCompiled texts held }
+        ensures { (texts : List (List ℕ)) → length texts ≡ 1 → HoldsCompiled texts held
+            → WriteEnds (Judges ListCode texts) (ExplainsSource texts) ⊥ (S.written out.old) (S.written out.new) (S.faults out.old)
+            (S.faults out.new) result }
+    {
+        let Compiled::Program(prepared) = held else {
+            unreachable!()
+        };
+        match listing(&prepared.code, out) {
+            Ok(()) => Ok(()),
+            Err(_) => Err(Unwritten::Fault),
+        }
     }
 }

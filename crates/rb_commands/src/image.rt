@@ -1,76 +1,121 @@
-//! The verdict on an image that was read.
-ghost use Rattle.std.specs.Prelude.{◌≡◌, ◌≤◌, length, IfOk, IfErr, OnOk};
+//! Images that may be run.
+ghost use Rattle.std.specs.Prelude.{◌≡◌, ◌≤◌, length, IfOk, IfErr};
 ghost use Rattle.rb_code.specs.Instructions.Plain.{code as plain};
-ghost use Rattle.rb_nest.specs.Groups.{alternates, memberships};
-ghost use Rattle.rb_image.specs.Laws.{IsImage, IsRefused};
-ghost use Rattle.rb_stages.specs.declared.image.TheConstants.{MOST_IMAGE};
-ghost use Rattle.rb_stages.specs.Judgement.{ImageHolds};
-ghost use Rattle.rb_stages.specs.Stages.{EndsForImage, IsUnfitImage, StageEnds};
+ghost use Rattle.rb_lists.specs.Lists.{HasLists};
+ghost use Rattle.rb_nest.specs.Groups.{memberships};
+ghost use Rattle.rb_code.specs.WordMachine.WordRun.{word_text};
+ghost use Rattle.rb_trace.specs.Naming.{naming};
+ghost use Rattle.rb_verdict.specs.Programs.{MayRun, names_in, program_of};
+ghost use Rattle.rb_commands.specs.Held.{IsUnfit};
+ghost use Rattle.rb_commands.specs.Written.{EndsOverTurns};
 
-use rb_image::{FormRefusal, Raw, read_image};
+use crate::run::run_turns;
+use crate::why::Why;
+use rb_base::{MOST_BYTES, Nested};
+use rb_code::Code;
+use rb_hall::{Fault, Unwritten};
+use rb_image::Raw;
+use rb_lists::check_lists;
 use rb_outside::Sink;
-use rb_stages::image::{Image, MOST_IMAGE, Unfit};
-use rb_stages::refuse::{refuse_bytes, refuse_long, refuse_unsound};
-use rb_stages::status::{Status, status_after};
+use rb_sched::Schedule;
+use rb_verify::verify;
 use std::alloc::Global;
+use std::marker::{Brand, Model};
+use std::sync::ledger::Blank;
 
-/// Judges an image by the bytes that were read of it. Where it is refused, its line is written, and the call ends so.
-pub fn accepted_image<S: Sink>(alloc: Global, bytes: &[u8], out: &mut S) -> Result<Image, Status>
-    ensures holds { IfOk result (ImageHolds bytes.now) }
-    ensures written { OnOk result (S.written out.new ≡ S.written out.old) }
-    ensures faults { OnOk result (S.faults out.new ≡ S.faults out.old) }
-    ensures ended { IfErr result (StageEnds (EndsForImage bytes.now) (S.written out.old) (S.written out.new) (S.faults out.old) (S.faults out.new)) }
-{
-    if bytes.len() > MOST_IMAGE {
-        return Err(status_after(refuse_long(out), Status::Refused));
-    }
-    match read_image(alloc, bytes) {
-        Ok(raw) => accepted_program(alloc, bytes, raw, out),
-        Err(refusal) => Err(refused_bytes(bytes, refusal, out)),
+/// Why a program is not run.
+#[derive(Clone, Copy)]
+pub enum Unfit {
+    /// It may not be run.
+    Unsound,
+    /// Memory is wanting, or its code is too costly to be looked at.
+    Memory,
+}
+
+/// A program that may be run: its code is sound, and what is printed of each process lies within the words of the process. Contracts see
+/// the program.
+pub struct Image {
+    code: Code,
+    nested: Nested,
+}
+
+impl Drop for Image {
+    fn drop(self) {
+        let Image { code: _, nested: _ } = self;
     }
 }
 
-// How the call ends where these bytes, which are not too many, are no image; they are seen by the contract alone.
-fn refused_bytes<S: Sink>(bytes: &[u8], refusal: FormRefusal, out: &mut S) -> Status
-    requires short { length bytes.now ≤ MOST_IMAGE }
-    requires refused { IsRefused bytes.now refusal }
-    ensures { StageEnds (EndsForImage bytes.now) (S.written out.old) (S.written out.new) (S.faults out.old) (S.faults out.new) result }
-{
-    let _ = bytes;
-    match refusal {
-        FormRefusal::Form => status_after(refuse_bytes(out), Status::Refused),
-        FormRefusal::Memory => Status::Memory,
+impl Model for Image {
+    ghost use Rattle.rb_verdict.specs.Programs.{MayRun, Program, program_of};
+
+    ghost Value = { Program };
+
+    ghost view = { λ i. program_of i.code i.nested };
+
+    ghost invariant = { λ i. MayRun (program_of i.code i.nested) };
+}
+
+impl Image {
+    /// Takes what bytes were read as, if it may be run: its lists are looked at first, and then what its code does.
+    pub fn accept(alloc: Global, raw: Raw) -> Result<Image, Unfit>
+        ensures same { IfOk result (λ image. image ≡ program_of raw.code raw.nested) }
+        ensures fit { IfOk result MayRun }
+        ensures unfit { IfErr result (IsUnfit (program_of raw.code raw.nested)) }
+    {
+        match check_lists(alloc, &raw.code, &raw.nested) {
+            Ok(()) => Image::verified(alloc, raw),
+            Err(rb_lists::Refusal::Unsound) => Err(Unfit::Unsound),
+            Err(rb_lists::Refusal::Memory) => Err(Unfit::Memory),
+        }
+    }
+
+    // The same where its lists are well formed.
+    fn verified(alloc: Global, raw: Raw) -> Result<Image, Unfit>
+        requires { HasLists raw.code raw.nested }
+        ensures same { IfOk result (λ image. image ≡ program_of raw.code raw.nested) }
+        ensures fit { IfOk result MayRun }
+        ensures unfit { IfErr result (IsUnfit (program_of raw.code raw.nested)) }
+    {
+        match verify(alloc, &raw.code, &raw.nested) {
+            Ok(()) => Ok(Image {
+                code: raw.code,
+                nested: raw.nested,
+            }),
+            Err(rb_verify::Refusal::Unsound) => Err(Unfit::Unsound),
+            Err(rb_verify::Refusal::Memory) => Err(Unfit::Memory),
+        }
+    }
+
+    /// Judges a schedule, runs the program over its turns, and writes the text of the run.
+    pub fn run<S: Sink>(self, alloc: Global, text: &[u8], out: &mut S) -> Result<(), Unwritten<Why>>
+        requires { length text.now ≤ MOST_BYTES }
+        ensures { EndsOverTurns (names_in self) (word_text self.code self.groups) (λ names. naming names ≡ self.code.names) text.now
+            (S.written out.old) (S.written out.new) (S.faults out.old) (S.faults out.new) result }
+    {
+        let Image { code, nested } = self;
+        run_over(alloc, code, nested, text, out)
     }
 }
 
-// The bytes, which are not too many and seen by the contract alone, are the image of this.
-fn accepted_program<S: Sink>(
+// Judges a schedule for code, and runs the code over its turns. A call of its own, as the loop over turns stands in it.
+#[inline(never)]
+fn run_over<S: Sink>(
     alloc: Global,
-    bytes: &[u8],
-    raw: Raw,
+    code: Code,
+    nested: Nested,
+    text: &[u8],
     out: &mut S,
-) -> Result<Image, Status>
-    requires short { length bytes.now ≤ MOST_IMAGE }
-    requires image { IsImage bytes.now (plain raw.code) (memberships raw.nested) (alternates raw.nested) }
-    ensures holds { IfOk result (ImageHolds bytes.now) }
-    ensures written { OnOk result (S.written out.new ≡ S.written out.old) }
-    ensures faults { OnOk result (S.faults out.new ≡ S.faults out.old) }
-    ensures ended { IfErr result (StageEnds (EndsForImage bytes.now) (S.written out.old) (S.written out.new) (S.faults out.old) (S.faults out.new)) }
+) -> Result<(), Unwritten<Why>>
+    requires fit { MayRun (program_of code nested) }
+    requires short { length text.now ≤ MOST_BYTES }
+    ensures { EndsOverTurns (names_in (program_of code nested)) (word_text (plain code) (memberships nested))
+        (λ names. naming names ≡ (plain code).names) text.now (S.written out.old) (S.written out.new) (S.faults out.old) (S.faults out.new) result }
 {
-    match Image::accept(alloc, raw) {
-        Ok(image) => Ok(image),
-        Err(unfit) => Err(refused_program(bytes, unfit, out)),
-    }
-}
-
-// How the call ends where they are the image of a program that is not run.
-fn refused_program<S: Sink>(bytes: &[u8], unfit: Unfit, out: &mut S) -> Status
-    requires { IsUnfitImage bytes.now unfit }
-    ensures { StageEnds (EndsForImage bytes.now) (S.written out.old) (S.written out.new) (S.faults out.old) (S.faults out.new) result }
-{
-    let _ = bytes;
-    match unfit {
-        Unfit::Unsound => status_after(refuse_unsound(out), Status::Refused),
-        Unfit::Memory => Status::Memory,
-    }
+    let fault = match Schedule::read(text, &code.names) {
+        Ok(schedule) => {
+            return run_turns::<S, Brand>(alloc, &code, &nested, schedule, out, Blank::new(1));
+        }
+        Err(fault) => fault,
+    };
+    Err(Unwritten::Refused(Fault::Text(fault), Why::Names(code.into_names())))
 }

@@ -1,22 +1,29 @@
-//! The commands: which of them words ask for, what each makes of its files, and the laws of their judgements. Of `compile`, `run`, `survive`
-//! and `stuck` only parts stand here: they are carried out in rb_top.
+//! The commands of `rbl`: which of them words ask for, and each in a file of its own name, as the driver carries it out.
 #![tactic(auto)]
 
-pub mod analyse;
+pub mod asking;
 pub mod check;
 pub mod code;
+pub mod compile;
+pub mod domino;
 pub mod image;
-pub mod laws;
 pub mod load;
 pub mod number;
+pub mod over_schedule;
 pub mod plain;
 pub mod request;
+pub mod run;
+pub mod saying;
 pub mod session;
 pub mod source;
+pub mod stuck;
 pub mod summary;
-pub mod survey_turns;
-pub mod survive_turns;
+pub mod survive;
 pub mod trial;
+pub mod why;
 pub mod words;
 
+pub use asking::requested;
+pub use request::{Request, command};
+pub use why::Why;
 pub use words::Words;

@@ -1,198 +1,179 @@
-//! The command `session`, which reads a source, a schedule for it, and a session that steps forth and back over the run.
-ghost use Rattle.std.specs.Prelude.{◌≡◌, ◌≤◌, ◌<◌, ℕ, List, [], ◌∷◌, drop, length, vec_len};
-ghost use Rattle.rb_base.specs.declared.limits.TheConstants.{MOST_BYTES, MOST_TURNS};
-ghost use Rattle.rb_code.specs.Instructions.Plain.{code as plain};
-ghost use Rattle.rb_conv.specs.Conversations.{memberships, opening};
-ghost use Rattle.rb_prepare.specs.Prepared.{IsPrepared};
+//! The command `session`: a source is read, a schedule for it, and a session that steps forth and back over the run; and what the session shows
+//! is written.
+ghost use Rattle.std.specs.Prelude.{◌≡◌, ◌≤◌, ◌<◌, ℕ, List, [], ◌∷◌, length, vec_len, MatchOption, MatchResult, slice_get, Some, Err};
+ghost use Rattle.rb_base.specs.Naming.{process_names};
+ghost use Rattle.rb_base.specs.declared.limits.TheConstants.{MOST_TURNS};
 ghost use Rattle.rb_back.specs.Script.{CanFollow};
 ghost use Rattle.rb_back.specs.Shown.{session_text};
-ghost use Rattle.rb_stages.specs.Words.{session_of, text_named};
-ghost use Rattle.rb_stages.specs.Answers.{scene_of, before_both, before_start, WithRequest};
-ghost use Rattle.rb_stages.specs.Judgement.{Writes};
-ghost use Rattle.rb_stages.specs.Read.{WasReadIn};
-ghost use Rattle.rb_stages.specs.Stages.{EndsForSession, HasSource, HasTurns, WritingStageEnds, status_of_following};
+ghost use Rattle.rb_code.specs.Instructions.Plain.{code as plain};
+ghost use Rattle.rb_conv.specs.Conversations.{memberships, opening};
+ghost use Rattle.rb_hall.specs.Ends.{HoldsOn, IfRefused, WriteEnds, wanted_of};
+ghost use Rattle.rb_verdict.specs.Judging.{Judges};
+ghost use Rattle.rb_prepare.specs.Prepared.{IsPrepared};
+ghost use Rattle.rb_sched.specs.Schedule.{schedule_of};
+ghost use Rattle.rb_verdict.specs.Words.{Session as Showing, text_named};
+ghost use Rattle.rb_commands.specs.Explained.{ExplainsProgram, NamesOfSource};
+ghost use Rattle.rb_commands.specs.Held.{HasTurns, HoldsSession, TakesTurns};
+ghost use Rattle.rb_commands.specs.Written.{EndsSession, PutsFrontOrMemory, unwritten_of_following};
 
-use crate::source::prepared_source;
-use rb_back::{Script, Session, Stopped, show_all};
-use rb_base::{MOST_BYTES, Steps};
-use rb_outside::{Shelf, Sink};
+use crate::source::prepare_source;
+use crate::why::Why;
+use rb_back::{Script, Session as Steppable, Stopped, show_all};
+use rb_base::{MOST_BYTES, Names, Steps, TextFault};
+use rb_hall::{Command, Fault, Stop, Unwritten, Wanted, Written};
+use rb_outside::{Memory, Sink};
 use rb_prepare::Prepared;
 use rb_sched::Schedule;
-use rb_stages::read::read_file;
-use rb_stages::refuse::{refuse_long, refuse_text};
-use rb_stages::status::{Status, status_after};
 use std::alloc::Global;
 use std::marker::Brand;
 use std::sync::ledger::{Blank, Ledger};
 
-/// Reads and judges a source, a schedule for it and a session over the schedule's turns, and writes what the session shows.
-pub fn show_files<F: Shelf, S: Sink>(
-    alloc: Global,
-    source: &str,
-    schedule: &str,
-    session: &str,
-    shelf: &mut F,
-    out: &mut S,
-) -> Status
-    ensures files { F.files shelf.new ≡ F.files shelf.old }
-    ensures answers { WithRequest (session_of source.now schedule.now session.now)
-        (scene_of F.files F.starts F.faults S.written S.faults shelf.old out.old)
-        (scene_of F.files F.starts F.faults S.written S.faults shelf.new out.new)
-        result }
-{
-    match read_file(alloc, shelf, source, MOST_BYTES) {
-        Ok(bytes) => show_source(
-            alloc,
-            source,
-            bytes.as_slice(),
-            schedule,
-            session,
-            shelf,
-            out,
-        ),
-        Err(unread) => unread.status(),
+/// `session SOURCE SCHEDULE SESSION`.
+#[derive(Clone, Copy)]
+pub struct Session<'a> {
+    pub source: &'a str,
+    pub schedule: &'a str,
+    pub session: &'a str,
+}
+
+/// What `session` holds: the program, then the schedule with how many turns it has, and then the session, which is still to be judged.
+#[derive(Drop)]
+pub enum Shown<'s> {
+    Nothing,
+    Program(Prepared),
+    Turns(Prepared, &'s [u8], u32),
+    All(Prepared, &'s [u8], u32, &'s [u8]),
+}
+
+impl<'s> Command<'s> for Session<'_> {
+    type Held = Shown<'s>;
+
+    type Why = Why;
+
+    ghost wanted = { λ c. text_named c.source.now ∷ text_named c.schedule.now ∷ text_named c.session.now ∷ [] };
+
+    ghost judges = { λ _. Judges Showing };
+
+    ghost explains = { λ _. ExplainsProgram NamesOfSource };
+
+    ghost holds = { λ _. HoldsSession };
+
+    ghost takes = { λ _. Unit {0} };
+
+    fn file(&self, number: usize) -> Option<Wanted<'_>>
+        ensures { MatchOption result (3 ≤ number)
+            (λ file. slice_get (text_named self.now.source.now ∷ text_named self.now.schedule.now ∷ text_named self.now.session.now ∷ []) number
+            ≡ Some (wanted_of file)) }
+    {
+        match number {
+            0 => Some(Wanted {
+                name: self.source,
+                most: MOST_BYTES,
+            }),
+            1 => Some(Wanted {
+                name: self.schedule,
+                most: MOST_BYTES,
+            }),
+            2 => Some(Wanted {
+                name: self.session,
+                most: MOST_BYTES,
+            }),
+            _ => None,
+        }
+    }
+
+    fn begin(&self, _alloc: Global) -> Result<Shown<'s>, Memory> {
+        Ok(Shown::Nothing)
+    }
+
+    fn take(&self, alloc: Global, held: Shown<'s>, text: &'s [u8]) -> Result<Shown<'s>, Stop<Why>> {
+        match held {
+            Shown::Nothing => match prepare_source(alloc, text) {
+                Ok(prepared) => Ok(Shown::Program(prepared)),
+                Err(stop) => Err(stop),
+            },
+            Shown::Program(prepared) => take_turns(prepared, text),
+            Shown::Turns(prepared, schedule, turns) => {
+                Ok(Shown::All(prepared, schedule, turns, text))
+            }
+            Shown::All(_, _, _, _) => unreachable!(),
+        }
+    }
+
+    fn write<S: Sink + Drop>(&self, alloc: Global, held: Shown<'s>, out: S) -> Written<S, Why> {
+        let mut sink = out;
+        let ended = self.put(alloc, held, &mut sink);
+        Written { sink, ended }
     }
 }
 
-// The source was read: its start is the newest, after those before the call.
-fn show_source<F: Shelf, S: Sink>(
-    alloc: Global,
-    source: &str,
-    bytes: &[u8],
-    schedule: &str,
-    session: &str,
-    shelf: &mut F,
-    out: &mut S,
-) -> Status
-    requires { WasReadIn (F.files shelf.old) source.now MOST_BYTES bytes.now (drop 1 (F.starts shelf.old)) (F.starts shelf.old) }
-    ensures files { F.files shelf.new ≡ F.files shelf.old }
-    ensures answers { WithRequest (session_of source.now schedule.now session.now)
-        (before_start (scene_of F.files F.starts F.faults S.written S.faults shelf.old out.old))
-        (scene_of F.files F.starts F.faults S.written S.faults shelf.new out.new)
-        result }
-{
-    match prepared_source(alloc, bytes, out) {
-        Ok(prepared) => read_turns(alloc, source, &prepared, schedule, session, shelf, out),
-        Err(status) => status,
+impl Session<'_> {
+    // Writes its text.
+    fn put<S: Sink>(
+        &self,
+        alloc: Global,
+        held: Shown<'_>,
+        out: &mut S,
+    ) -> Result<(), Unwritten<Why>>
+        requires { (texts : List (List ℕ)) × (length texts ≡ 3) × HoldsSession texts held }
+        ensures { (texts : List (List ℕ)) → length texts ≡ 3 → HoldsSession texts held.entry
+            → WriteEnds (Judges Showing texts) (ExplainsProgram NamesOfSource texts) (Unit {0}) (S.written out.old) (S.written out.new) (S.faults out.old)
+            (S.faults out.new) result }
+    {
+        let Shown::All(prepared, schedule, turns, session) = held else {
+            unreachable!()
+        };
+        show(alloc, prepared, schedule, turns, session, out)
     }
 }
 
-// The source was accepted.
-fn read_turns<F: Shelf, S: Sink>(
-    alloc: Global,
-    source: &str,
-    prepared: &Prepared,
-    schedule: &str,
-    session: &str,
-    shelf: &mut F,
-    out: &mut S,
-) -> Status
-    requires { HasSource (F.files shelf.old) (session_of source.now schedule.now session.now)
-        (λ bytes. IsPrepared bytes prepared.now) (text_named schedule.now ∷ text_named session.now ∷ []) (drop 1 (F.starts shelf.old))
-        (F.starts shelf.old) }
-    ensures files { F.files shelf.new ≡ F.files shelf.old }
-    ensures answers { WithRequest (session_of source.now schedule.now session.now)
-        (before_start (scene_of F.files F.starts F.faults S.written S.faults shelf.old out.old))
-        (scene_of F.files F.starts F.faults S.written S.faults shelf.new out.new)
-        result }
+// Judges a schedule. What is kept of it is its text, with how many turns it has, as it borrows the names of the program.
+fn take_turns<'s>(prepared: Prepared, text: &'s [u8]) -> Result<Shown<'s>, Stop<Why>>
+    requires prepared { (source : List ℕ) × IsPrepared source prepared }
+    requires short { length text.now ≤ MOST_BYTES }
+    ensures { (source : List ℕ) → IsPrepared source prepared → TakesTurns source text.now result }
 {
-    match read_file(alloc, shelf, schedule, MOST_BYTES) {
-        Ok(bytes) => judge_turns(
-            alloc,
-            source,
-            prepared,
-            schedule,
-            bytes.as_slice(),
-            session,
-            shelf,
-            out,
-        ),
-        Err(unread) => unread.status(),
+    match count_turns(text, &prepared.code.names) {
+        Ok(turns) => Ok(Shown::Turns(prepared, text, turns)),
+        Err(fault) => Err(Stop::Refused(Fault::Text(fault), Why::Names(prepared.into_names()))),
     }
 }
 
-// The schedule was read: its start is the newest, after that of the source. Both names are seen by the contract alone.
-fn judge_turns<F: Shelf, S: Sink>(
-    alloc: Global,
-    source: &str,
-    prepared: &Prepared,
-    schedule: &str,
-    bytes: &[u8],
-    session: &str,
-    shelf: &mut F,
-    out: &mut S,
-) -> Status
-    requires source { HasSource (F.files shelf.old) (session_of source.now schedule.now session.now)
-        (λ bytes. IsPrepared bytes prepared.now) (text_named schedule.now ∷ text_named session.now ∷ [])
-        (drop 1 (drop 1 (F.starts shelf.old))) (drop 1 (F.starts shelf.old)) }
-    requires read { WasReadIn (F.files shelf.old) schedule.now MOST_BYTES bytes.now (drop 1 (F.starts shelf.old)) (F.starts shelf.old) }
-    ensures files { F.files shelf.new ≡ F.files shelf.old }
-    ensures answers { WithRequest (session_of source.now schedule.now session.now)
-        (before_both (scene_of F.files F.starts F.faults S.written S.faults shelf.old out.old))
-        (scene_of F.files F.starts F.faults S.written S.faults shelf.new out.new)
-        result }
+// How many turns a schedule has, or its first fault.
+fn count_turns(text: &[u8], names: &Names) -> Result<u32, TextFault>
+    requires { length text.now ≤ MOST_BYTES }
+    ensures { MatchResult result (HasTurns (process_names names.now) text.now)
+        (λ fault. schedule_of (process_names names.now) text.now ≡ Err fault) }
 {
-    if bytes.len() > MOST_BYTES {
-        return status_after(refuse_long(out), Status::Refused);
-    }
-    match Schedule::read(bytes, &prepared.code.names) {
-        Ok(turns) => read_session(
-            alloc, source, schedule, prepared, turns, session, shelf, out,
-        ),
-        Err(fault) => status_after(refuse_text(out, fault), Status::Refused),
+    match Schedule::read(text, names) {
+        Ok(schedule) => Ok(schedule.turns()),
+        Err(fault) => Err(fault),
     }
 }
 
-// The schedule is a list of turns. The names of the source and the schedule are seen by the contract alone.
-fn read_session<F: Shelf, S: Sink>(
+// Judges a session over turns that were read before, and writes what it shows.
+fn show<S: Sink>(
     alloc: Global,
-    source: &str,
-    schedule: &str,
-    prepared: &Prepared,
-    turns: Schedule<'_>,
-    session: &str,
-    shelf: &mut F,
+    prepared: Prepared,
+    schedule: &[u8],
+    turns: u32,
+    session: &[u8],
     out: &mut S,
-) -> Status
-    requires whole { turns.left ≡ turns.all }
-    requires few { length turns.left ≤ MOST_TURNS }
-    requires read { HasTurns (F.files shelf.old) (session_of source.now schedule.now session.now) prepared.now turns.all
-        (text_named session.now ∷ []) (drop 1 (drop 1 (F.starts shelf.old))) (F.starts shelf.old) }
-    ensures files { F.files shelf.new ≡ F.files shelf.old }
-    ensures answers { WithRequest (session_of source.now schedule.now session.now)
-        (before_both (scene_of F.files F.starts F.faults S.written S.faults shelf.old out.old))
-        (scene_of F.files F.starts F.faults S.written S.faults shelf.new out.new)
-        result }
+) -> Result<(), Unwritten<Why>>
+    requires prepared { (source : List ℕ) × IsPrepared source prepared }
+    requires read { HasTurns (process_names prepared.code.names) schedule.now turns }
+    requires short { length session.now ≤ MOST_BYTES }
+    ensures { (source : List ℕ) → (accepted : IsPrepared source prepared) → EndsSession source accepted.tree schedule.now session.now
+        (S.written out.old) (S.written out.new) (S.faults out.old) (S.faults out.new) result }
 {
-    let _ = source;
-    let _ = schedule;
-    match read_file(alloc, shelf, session, MOST_BYTES) {
-        Ok(bytes) => judge_session(alloc, prepared, turns, bytes.as_slice(), out),
-        Err(unread) => unread.status(),
-    }
-}
-
-// The session was read.
-fn judge_session<S: Sink>(
-    alloc: Global,
-    prepared: &Prepared,
-    turns: Schedule<'_>,
-    bytes: &[u8],
-    out: &mut S,
-) -> Status
-    requires prepared { (source : List ℕ) × IsPrepared source prepared.now }
-    requires whole { turns.left ≡ turns.all }
-    requires few { length turns.left ≤ MOST_TURNS }
-    ensures { WritingStageEnds (EndsForSession prepared.now turns.entry.all bytes.now) (S.written out.old) (S.written out.new)
-        (S.faults out.old) (S.faults out.new) result }
-{
-    if bytes.len() > MOST_BYTES {
-        return status_after(refuse_long(out), Status::Refused);
-    }
-    match Script::read(bytes, &prepared.code.names, turns.turns()) {
-        Ok(script) => follow::<S, Brand>(alloc, prepared, turns, script, out, Blank::new(1)),
-        Err(fault) => status_after(refuse_text(out, fault), Status::Refused),
-    }
+    let fault = match Script::read(session, &prepared.code.names, turns) {
+        Ok(script) => {
+            let again = Schedule::counted(schedule, &prepared.code.names, turns);
+            return follow::<S, Brand>(alloc, &prepared, again, script, out, Blank::new(1));
+        }
+        Err(fault) => fault,
+    };
+    Err(Unwritten::Refused(Fault::Text(fault), Why::Names(prepared.into_names())))
 }
 
 // Follows the orders of a session over the run. The ledger counts steps, which contracts alone see.
@@ -203,7 +184,7 @@ fn follow<S: Sink, L: Ledger>(
     script: Script<'_>,
     out: &mut S,
     blank: Blank,
-) -> Status
+) -> Result<(), Unwritten<Why>>
     requires name { blank.name ≡ L.name }
     requires parts { blank.parts ≡ L.parts }
     requires backed { 0 < blank.parts }
@@ -211,29 +192,27 @@ fn follow<S: Sink, L: Ledger>(
     requires whole { turns.left ≡ turns.all }
     requires few { length turns.left ≤ MOST_TURNS }
     requires can_follow { CanFollow (vec_len prepared.now.code.names.processes) (length turns.left) 0 script }
-    ensures { WritingStageEnds
-        (λ judgement. judgement
-        ≡ Writes (session_text (plain prepared.now.code) (memberships (opening prepared.now.nested)) turns.entry.all script.entry))
+    ensures { PutsFrontOrMemory (session_text (plain prepared.now.code) (memberships (opening prepared.now.nested)) turns.entry.all script.entry)
         (S.written out.old) (S.written out.new) (S.faults out.old) (S.faults out.new) result }
 {
     let mut steps = Steps::<L>::start(blank);
     let names = &prepared.code.names;
     let most = turns.turns();
-    match Session::load(alloc, &prepared.code, &prepared.nested, most, &mut steps) {
+    match Steppable::load(alloc, &prepared.code, &prepared.nested, most, &mut steps) {
         Ok(mut session) => {
-            status_of(show_all(&mut session, names, script, turns, out, &mut steps))
+            unwritten_of(show_all(&mut session, names, script, turns, out, &mut steps))
         }
-        Err(_) => Status::Memory,
+        Err(_) => Err(Unwritten::Memory),
     }
 }
 
 // How the call ends after a session was followed.
-fn status_of(followed: Result<(), Stopped>) -> Status
-    ensures { result ≡ status_of_following followed }
+fn unwritten_of(followed: Result<(), Stopped>) -> Result<(), Unwritten<Why>>
+    ensures { result ≡ unwritten_of_following followed }
 {
     match followed {
-        Ok(()) => Status::Done,
-        Err(Stopped::WriteFault) => Status::WriteFault,
-        Err(Stopped::Memory) => Status::Memory,
+        Ok(()) => Ok(()),
+        Err(Stopped::WriteFault) => Err(Unwritten::Fault),
+        Err(Stopped::Memory) => Err(Unwritten::Memory),
     }
 }

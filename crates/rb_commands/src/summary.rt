@@ -4,7 +4,7 @@ ghost use Rattle.rb_outside.specs.Puts.{Puts};
 ghost use Rattle.rb_make.specs.Trial.{processes_of};
 ghost use Rattle.rb_run.specs.Counting.{counts};
 ghost use Rattle.rb_world.specs.Text.{line_of};
-ghost use Rattle.rb_stages.specs.Judgement.{counts_line, summary_of};
+ghost use Rattle.rb_verdict.specs.Summary.{counts_line, summary_of};
 
 use itoa::Buffer;
 use rb_make::process_count;

@@ -1,63 +1,120 @@
-//! The command `trial`.
-ghost use Rattle.std.specs.Prelude.{◌≡◌, ◌≤◌, ◌<◌, ℕ, List, [], length};
+//! The command `trial`: a source and a schedule are made, and it is written how many lines of each kind the run of the one over the other would
+//! print.
+ghost use Rattle.std.specs.Prelude.{◌≡◌, ◌≤◌, ◌<◌, ℕ, List, [], ◌∷◌, length};
 ghost use Rattle.rb_base.specs.declared.limits.TheConstants.{MOST_BYTES, MOST_TURNS};
 ghost use Rattle.rb_code.specs.Instructions.Plain.{code as plain};
 ghost use Rattle.rb_conv.specs.Conversations.{memberships, opening};
+ghost use Rattle.rb_hall.specs.Ends.{HoldsOn, IfRefused, WriteEnds};
 ghost use Rattle.rb_make.specs.Trial.{schedule_of as made_schedule, source_of};
 ghost use Rattle.rb_prepare.specs.Prepared.{IsPrepared};
-ghost use Rattle.rb_stages.specs.Words.{Trial};
-ghost use Rattle.rb_stages.specs.Judgement.{Judges, Writes, summary_of, summary_text};
-ghost use Rattle.rb_stages.specs.Products.{word_counts};
-ghost use Rattle.rb_stages.specs.Stages.{EndsForSchedule, StageEnds};
+ghost use Rattle.rb_verdict.specs.Judging.{Judges, OverSchedule};
+ghost use Rattle.rb_verdict.specs.Summary.{summary_of, summary_text};
+ghost use Rattle.rb_verdict.specs.Words.{Trial as Trying};
+ghost use Rattle.rb_commands.specs.Explained.{ExplainsSource};
+ghost use Rattle.rb_commands.specs.Held.{HoldsNoText};
+ghost use Rattle.rb_commands.specs.Products.{word_counts};
+ghost use Rattle.rb_commands.specs.Written.{EndsPlainly, PutsOrMemory};
 
-use crate::source::prepared_source;
+use crate::source::prepare_source;
 use crate::summary::put_summary;
+use crate::why::Why;
 use rb_base::Steps;
+use rb_hall::{Command, Fault, Stop, Unwritten, Wanted, Written};
 use rb_machine::Machine;
 use rb_make::make;
-use rb_outside::Sink;
+use rb_outside::{Memory, Sink};
 use rb_prepare::Prepared;
 use rb_run::count;
 use rb_sched::Schedule;
-use rb_stages::refuse::refuse_text;
-use rb_stages::status::{Status, status_after};
 use std::alloc::Global;
 use std::marker::Brand;
 use std::sync::ledger::{Blank, Ledger};
 
-/// Makes the two texts of a trial, judges them as if they were read, runs the one over the other with nothing printed, and writes how many
-/// lines of each kind the run would print.
-pub fn try_number<S: Sink>(alloc: Global, number: u64, out: &mut S) -> Status
-    ensures { StageEnds (Judges (Trial number) []) (S.written out.old) (S.written out.new) (S.faults out.old) (S.faults out.new) result }
-{
-    match make(alloc, number) {
-        Ok((source, schedule)) => try_source(
-            alloc,
-            number,
-            source.as_slice(),
-            schedule.as_slice(),
-            out,
-        ),
-        Err(_) => Status::Memory,
+/// `trial NUMBER`.
+#[derive(Clone, Copy)]
+pub struct Trial {
+    pub number: u64,
+}
+
+/// What a command holds that reads no file.
+#[derive(Clone, Copy)]
+pub struct NoText;
+
+impl<'s> Command<'s> for Trial {
+    type Held = NoText;
+
+    type Why = Why;
+
+    ghost wanted = { λ _. [] };
+
+    ghost judges = { λ c. Judges (Trying c.number) };
+
+    ghost explains = { λ _. ExplainsSource };
+
+    ghost holds = { λ _. HoldsNoText };
+
+    ghost takes = { λ _. ⊥ };
+
+    fn file(&self, _number: usize) -> Option<Wanted<'_>> {
+        None
+    }
+
+    fn begin(&self, _alloc: Global) -> Result<NoText, Memory> {
+        Ok(NoText)
+    }
+
+    fn take(&self, _alloc: Global, _held: NoText, _text: &'s [u8]) -> Result<NoText, Stop<Why>> {
+        // It has no file, so no text is given to it, and it holds nothing of one.
+        Err(Stop::Memory)
+    }
+
+    fn write<S: Sink + Drop>(&self, alloc: Global, held: NoText, out: S) -> Written<S, Why> {
+        let mut sink = out;
+        let ended = self.put(alloc, held, &mut sink);
+        Written { sink, ended }
     }
 }
 
-// The texts are made.
-fn try_source<S: Sink>(
+impl Trial {
+    // Writes its text.
+    fn put<S: Sink>(&self, alloc: Global, _held: NoText, out: &mut S) -> Result<(), Unwritten<Why>>
+        requires { (texts : List (List ℕ)) × (length texts ≡ 0) × HoldsNoText texts _held }
+        ensures { (texts : List (List ℕ)) → length texts ≡ 0 → HoldsNoText texts _held
+            → WriteEnds (Judges (Trying self.now.number) texts) (ExplainsSource texts) ⊥ (S.written out.old) (S.written out.new) (S.faults out.old)
+            (S.faults out.new) result }
+    {
+        match make(alloc, self.number) {
+            Ok((source, schedule)) => try_texts(
+                alloc,
+                self.number,
+                source.as_slice(),
+                schedule.as_slice(),
+                out,
+            ),
+            Err(_) => Err(Unwritten::Memory),
+        }
+    }
+}
+
+// The texts are made, and are judged as if they were read.
+fn try_texts<S: Sink>(
     alloc: Global,
     number: u64,
     source: &[u8],
     schedule: &[u8],
     out: &mut S,
-) -> Status
+) -> Result<(), Unwritten<Why>>
     requires source { source.now ≡ source_of number }
     requires schedule { schedule.now ≡ made_schedule number }
-    requires short { length schedule.now ≤ MOST_BYTES }
-    ensures { StageEnds (Judges (Trial number) []) (S.written out.old) (S.written out.new) (S.faults out.old) (S.faults out.new) result }
+    requires short_source { length source.now ≤ MOST_BYTES }
+    requires short_schedule { length schedule.now ≤ MOST_BYTES }
+    ensures { WriteEnds (Judges (Trying number) []) (ExplainsSource []) ⊥ (S.written out.old) (S.written out.new) (S.faults out.old) (S.faults out.new)
+        result }
 {
-    match prepared_source(alloc, source, out) {
+    match prepare_source(alloc, source) {
         Ok(prepared) => try_schedule(alloc, number, &prepared, schedule, out),
-        Err(status) => status,
+        Err(Stop::Refused(fault, why)) => Err(Unwritten::Refused(fault, why)),
+        Err(Stop::Memory) => Err(Unwritten::Memory),
     }
 }
 
@@ -66,19 +123,19 @@ fn try_schedule<S: Sink>(
     alloc: Global,
     number: u64,
     prepared: &Prepared,
-    bytes: &[u8],
+    text: &[u8],
     out: &mut S,
-) -> Status
+) -> Result<(), Unwritten<Why>>
     requires prepared { (source : List ℕ) × IsPrepared source prepared.now }
-    requires short { length bytes.now ≤ MOST_BYTES }
-    ensures { StageEnds (EndsForSchedule (summary_text number) prepared.now bytes.now) (S.written out.old)
-        (S.written out.new) (S.faults out.old) (S.faults out.new) result }
+    requires short { length text.now ≤ MOST_BYTES }
+    ensures { (source : List ℕ) → (accepted : IsPrepared source prepared.now) → EndsPlainly (OverSchedule (summary_text number) accepted.tree (text.now ∷ []))
+        (S.written out.old) (S.written out.new) (S.faults out.old) (S.faults out.new) result }
 {
-    match Schedule::read(bytes, &prepared.code.names) {
+    match Schedule::read(text, &prepared.code.names) {
         Ok(schedule) => {
             try_turns::<S, Brand>(alloc, number, prepared, schedule, out, Blank::new(1))
         }
-        Err(fault) => status_after(refuse_text(out, fault), Status::Refused),
+        Err(fault) => Err(Unwritten::Refused(Fault::Text(fault), Why::Plain)),
     }
 }
 
@@ -90,17 +147,15 @@ fn try_turns<S: Sink, L: Ledger>(
     schedule: Schedule<'_>,
     out: &mut S,
     blank: Blank,
-) -> Status
+) -> Result<(), Unwritten<Why>>
     requires name { blank.name ≡ L.name }
     requires parts { blank.parts ≡ L.parts }
     requires backed { 0 < blank.parts }
     requires prepared { (source : List ℕ) × IsPrepared source prepared.now }
     requires whole { schedule.left ≡ schedule.all }
     requires turns { length schedule.left ≤ MOST_TURNS }
-    ensures { StageEnds
-        (λ judgement. judgement
-        ≡ Writes (summary_of number (length schedule.entry.all)
-        (word_counts (plain prepared.now.code) (memberships (opening prepared.now.nested)) schedule.entry.all)))
+    ensures { PutsOrMemory (summary_of number (length schedule.entry.all)
+        (word_counts (plain prepared.now.code) (memberships (opening prepared.now.nested)) schedule.entry.all))
         (S.written out.old) (S.written out.new) (S.faults out.old) (S.faults out.new) result }
 {
     let mut steps = Steps::<L>::start(blank);
@@ -108,8 +163,11 @@ fn try_turns<S: Sink, L: Ledger>(
     match Machine::load(alloc, &prepared.code, &prepared.nested, turns, &mut steps) {
         Ok(mut machine) => {
             let counts = count(&mut machine, schedule, &mut steps);
-            status_after(put_summary(out, number, turns, counts), Status::Done)
+            match put_summary(out, number, turns, counts) {
+                Ok(()) => Ok(()),
+                Err(_) => Err(Unwritten::Fault),
+            }
         }
-        Err(_) => Status::Memory,
+        Err(_) => Err(Unwritten::Memory),
     }
 }

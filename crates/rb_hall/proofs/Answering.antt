@@ -10,7 +10,7 @@ use Rattle.rb_hall.specs.declared.command.Unwritten.{Unwritten}
 use Rattle.rb_hall.specs.declared.command.Unwritten.TheVariants as unwritten
 use Rattle.rb_hall.specs.Judgement.{Explained, Explaining, Judgement, Judging, ReadsOn, RefusedWith, Writes, Wants, Limited, as_judged, line_of}
 use Rattle.rb_hall.specs.Answers.{Scene, HasReadIn, EndedIn, IsOfLast, RefusesIn, ReadFailsIn, RanOutIn, ReadAll, WritesNothing, WritesFront, WouldWrite, its_text, its_line, Answers}
-use Rattle.rb_hall.specs.Ends.{IsRefused, WriteEnds}
+use Rattle.rb_hall.specs.Ends.{EndsAfter, IsRefused, WriteEnds}
 use Rattle.rb_hall.specs.declared.outcome.Outcome.{Outcome}
 use Rattle.rb_hall.proofs.Driving.{ends_short}
 
@@ -93,3 +93,42 @@ pub refused_later : {W : Type 0} (refusal : Refusal W) (w0 w1 w2 : Option (List 
     IsRefused refusal w1 w2 f1 f2 outcome → IsRefused refusal w0 w2 f0 f2 outcome
 refused_later refusal w0 w1 w2 f0 f1 f2 outcome e same told =
     subst (λ (w : Option (List ℕ)). IsRefused refusal w w2 f0 f2 outcome) e (subst (λ (f : Faults). IsRefused refusal w1 w2 f f2 outcome) same told)
+
+module _ {W : Type 0} (files others : Option (List File)) (judges : Judging) (explains : Explaining W) (wanted : List Wants) (takes : Type 0)
+    (old now : List Start) (r0 r1 : Faults) {H : Type 0} (holds : List (List ℕ) → H → Type 0) (held : H) (number : ℕ) (bytes : List ℕ)
+    (all : ReadAll files judges wanted holds old now held number bytes) (well : r1.count ≡ r0.count)
+    (w0 w1 w2 : Option (List ℕ)) (f0 f1 f2 : Faults) where
+  abbrev first : Scene
+  first = record { files = files; starts = old; read_faults = r0; written = w0; write_faults = f0 }
+
+  abbrev last : Scene
+  last = record { files = others; starts = now; read_faults = r1; written = w2; write_faults = f2 }
+
+  -- nothing more was written behind this end
+  stays : (ended : Result (Unit {0}) (Unwritten W)) → w2 ≡ w1 → f2 ≡ f1
+      → WriteEnds (judges all.texts) (explains all.texts) takes w0 w1 f0 f1 ended → WriteEnds (judges all.texts) (explains all.texts) takes w0 w2 f0 f2 ended
+  stays ended same still ends =
+      subst (λ (w : Option (List ℕ)). WriteEnds (judges all.texts) (explains all.texts) takes w0 w f0 f2 ended) (sym same)
+      (subst (λ (f : Faults). WriteEnds (judges all.texts) (explains all.texts) takes w0 w1 f0 f ended) (sym still) ends)
+
+  -- the call ends as the command that wrote
+  pub written_answers : (ended : Result (Unit {0}) (Unwritten W)) (outcome : Outcome W)
+      → WriteEnds (judges all.texts) (explains all.texts) takes w0 w1 f0 f1 ended → EndsAfter ended number bytes w1 w2 f1 f2 outcome
+      → Answers (Limited judges wanted) explains wanted takes first last outcome
+  written_answers (Ok done) outcome ends (is, same, still) =
+      subst (Answers (Limited judges wanted) explains wanted takes first last) (sym is)
+      (done_answers files others judges explains wanted takes old now r0 r1 f0 f2 w0 w2 holds held number bytes all well done
+      (stays (Ok done) same still ends))
+  written_answers (Err unwritten.Fault) outcome ends (is, same, still) =
+      subst (Answers (Limited judges wanted) explains wanted takes first last) (sym is)
+      (fault_answers files others judges explains wanted takes old now r0 r1 f0 f2 w0 w2 holds held number bytes all well
+      (stays (Err unwritten.Fault) same still ends))
+  written_answers (Err unwritten.Memory) outcome ends (is, same, still) =
+      subst (Answers (Limited judges wanted) explains wanted takes first last) (sym is)
+      (memory_answers files others judges explains wanted takes old now r0 r1 f0 f2 w0 w2 holds held number bytes all well
+      (stays (Err unwritten.Memory) same still ends))
+  written_answers (Err (unwritten.Refused fault why)) outcome ends (refusal, is, numbered, keeps, known, refused) =
+      refused_answers files others judges explains wanted takes old now r0 r1 f0 f2 w0 w2 refusal outcome
+      (last_refused files others judges explains wanted takes old now r0 r1 f0 f1 w0 w1 holds held number bytes all well fault why refusal ends is known
+      numbered keeps) well
+      (refused_later refusal w0 w1 w2 f0 f1 f2 outcome ends.2 ends.3 refused)

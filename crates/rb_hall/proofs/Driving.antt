@@ -7,7 +7,7 @@ use Rattle.rb_hall.specs.declared.fault.Fault.{Fault}
 use Rattle.rb_hall.specs.declared.fault.Fault.TheVariants.{Long}
 use Rattle.rb_hall.specs.declared.outcome.Refusal.{Refusal}
 use Rattle.rb_hall.specs.Judgement.{Explained, Explaining, Judgement, Judging, ReadsOn, RefusedWith, Writes, Wants, AreShort, none_yet, one_short, Limited, as_judged, too_long}
-use Rattle.rb_hall.specs.Ends.{HoldsOn}
+use Rattle.rb_hall.specs.Ends.{HoldsOn, MayTake}
 use Rattle.rb_hall.specs.Answers.{piece_bytes, IsRead, HasRead, nothing_yet, one_more, HasReadSince, HasReadUntold, none_read, one_read, HasReadIn, IsFront, IsFrontIn, IsOfLast, of_none, of_last, RefusesIn, StoppedAt, StoppedByFault, StoppedByMissing, RanOut, between, RanOutIn, ReadFailsIn, by_fault, by_missing, ReadAll}
 use Rattle.rb_hall.specs.Answers as answers
 use Rattle.rb_hall.specs.Read.{WasRead, WasReadIn, StandsAt, StandsAtIn, StopsForFault, StopsForFaultIn}
@@ -20,6 +20,12 @@ pub drop_next : (xs : List Wants) (n : ℕ) (x : Wants) → slice_get xs n ≡ S
 drop_next [] n x e = absurd (cc)
 drop_next (y ∷ ys) zero x e = let same : y ≡ x = cc in (ap (λ (z : Wants). z ∷ ys) same, omega arith)
 drop_next (y ∷ ys) (suc n) x e = let rest = drop_next ys n x e in (rest.0, omega (arith, rest.1))
+
+-- the text of the next file may be taken
+pub may_take : {H : Type 0} (wanted : List Wants) (holds : List (List ℕ) → H → Type 0) (held : H) (text : List ℕ) (texts : List (List ℕ)) (file : Wants)
+    → slice_get wanted (length texts) ≡ Some file → length text ≤ file.most → holds texts held → MayTake wanted holds held text
+may_take [] holds held text texts file is fits here = tt
+may_take (first ∷ more) holds held text texts file is fits here = (texts, file, is, fits, here)
 
 -- where no file is wanted there is no next
 pub none_wanted : (wanted : List Wants) (n : ℕ) (x : Wants) (P : Type 0) → slice_get wanted n ≡ Some x → wanted ≡ [] → P

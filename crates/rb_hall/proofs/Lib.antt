@@ -3,3 +3,5 @@ pub mod Driving
 pub mod Answering
 pub mod Complete
 pub mod Behind
+pub mod Ends
+pub mod Limits

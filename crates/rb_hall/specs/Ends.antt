@@ -1,5 +1,5 @@
 -- How a command ends once it has judged all its texts, and writes.
-use Rattle.std.specs.Prelude.{◌≡◌, ◌⊎◌, ℕ, ◌<◌, ◌≤◌, List, [], ◌∷◌, ◌++◌, length, Option, Some, None, Result, Ok, Err}
+use Rattle.std.specs.Prelude.{◌≡◌, ◌⊎◌, ℕ, ◌<◌, ◌≤◌, List, [], ◌∷◌, ◌++◌, length, slice_get, Option, Some, None, Result, Ok, Err}
 use Rattle.rb_outside.specs.Outside.{Faults, WrotePart, failed_once, then_written}
 use Rattle.rb_hall.specs.declared.command.Stop.{Stop}
 use Rattle.rb_hall.specs.declared.command.Stop.TheVariants as stop
@@ -22,6 +22,13 @@ wanted_of file = record { name = file.name.now; most = file.most }
 -- After these texts so much is held of them; and while files are left, the command reads on.
 abbrev pub HoldsOn : {H : Type 0} → Judging → List Wants → (List (List ℕ) → H → Type 0) → List (List ℕ) → H → Type 0
 HoldsOn judges wanted holds texts held = holds texts held × (length texts < length wanted → judges texts ReadsOn)
+
+-- This may be the next text of a command with these files: it is no longer than its file may be, and so much is held of the texts before it.
+-- (A command without files is never given a text, so nothing is said of one.)
+abbrev pub MayTake : {H : Type 0} → List Wants → (List (List ℕ) → H → Type 0) → H → List ℕ → Type 0
+MayTake [] holds held text = Unit {0}
+MayTake (first ∷ more) holds held text =
+    (texts : List (List ℕ)) × (file : Wants) × (slice_get (first ∷ more) (length texts) ≡ Some file) × (length text ≤ file.most) × holds texts held
 
 -- the last of these texts is refused for this fault, of which this is known
 abbrev pub Refuses : {W : Type 0} → Judging → Explaining W → List (List ℕ) → Fault → W → Type 0
@@ -66,3 +73,14 @@ IsRefused refusal old new before after out.WriteFault = WrotePart old new (line_
 IsRefused refusal old new before after out.Done = ⊥
 IsRefused refusal old new before after (out.ReadFault number) = ⊥
 IsRefused refusal old new before after out.Memory = ⊥
+
+-- How a call ends after a command wrote: with its text, after a failed write, or for want of memory, with nothing more written; or refused for a
+-- fault of the last text, of which this is the number and so much was read, with the line of the refusal.
+abbrev pub EndsAfter : {W : Type 0} → Result (Unit {0}) (Unwritten W) → ℕ → List ℕ → Option (List ℕ) → Option (List ℕ) → Faults → Faults
+    → Outcome W → Type 0
+EndsAfter (Ok done) number text old new before after outcome = (outcome ≡ out.Done) × (new ≡ old) × (after ≡ before)
+EndsAfter (Err unwritten.Fault) number text old new before after outcome = (outcome ≡ out.WriteFault) × (new ≡ old) × (after ≡ before)
+EndsAfter (Err unwritten.Memory) number text old new before after outcome = (outcome ≡ out.Memory) × (new ≡ old) × (after ≡ before)
+EndsAfter {W = W} (Err (unwritten.Refused fault why)) number text old new before after outcome =
+    (refusal : Refusal W) × (refusal.fault ≡ fault) × (refusal.number ≡ number) × (refusal.text.now ≡ text) × (refusal.why ≡ Some why)
+    × IsRefused refusal old new before after outcome

@@ -1,7 +1,7 @@
 //! What a command is to the driver.
 ghost use Rattle.std.specs.Prelude.{◌≡◌, ℕ, ◌≤◌, List, [], ◌∷◌, ◌++◌, length, IfOk, MatchOption, slice_get, Some};
 ghost use Rattle.rb_hall.specs.Judgement.{Explaining, Judgement, Wants};
-ghost use Rattle.rb_hall.specs.Ends.{HoldsOn, IfRefused, Refuses, WriteEnds, wanted_of};
+ghost use Rattle.rb_hall.specs.Ends.{HoldsOn, IfRefused, MayTake, Refuses, WriteEnds, wanted_of};
 
 use crate::fault::Fault;
 use rb_outside::{Memory, Sink};
@@ -32,6 +32,13 @@ pub enum Unwritten<W: Drop> {
     Fault,
     /// Memory is wanting.
     Memory,
+}
+
+/// The sink that a command wrote to, and why its text was not written whole, where it was not.
+#[derive(Drop)]
+pub struct Written<S: Drop, W: Drop> {
+    pub sink: S,
+    pub ended: Result<(), Unwritten<W>>,
 }
 
 /// A command over texts that live as long as `'s`. It says which files it wants, and judges their texts one after another; what it holds of
@@ -74,8 +81,7 @@ pub trait Command<'s> {
         held: Self::Held,
         text: &'s [u8],
     ) -> Result<Self::Held, Stop<Self::Why>>
-        requires { (texts : List (List ℕ)) × (file : Wants) × (slice_get (wanted self.now) (length texts) ≡ Some file)
-            × (length text.now ≤ file.most) × holds self.now texts held }
+        requires { MayTake (wanted self.now) (holds self.now) held text.now }
         ensures held { IfOk result (λ next. (texts : List (List ℕ)) → holds self.now texts held
             → HoldsOn (judges self.now) (wanted self.now) (holds self.now) (texts ++ text.now ∷ []) next) }
         ensures refused { IfRefused result (λ fault why. (texts : List (List ℕ)) → holds self.now texts held
@@ -83,14 +89,14 @@ pub trait Command<'s> {
 
     /// Judges what is still to be judged once the texts of all files were read, and writes its text. (What is read of a last text may borrow
     /// from what is held of those before it, so it can't be held beside that.)
-    fn write<S: Sink>(
+    fn write<S: Sink + Drop>(
         &self,
         alloc: Global,
         held: Self::Held,
-        out: &mut S,
-    ) -> Result<(), Unwritten<Self::Why>>
+        out: S,
+    ) -> Written<S, Self::Why>
         requires { (texts : List (List ℕ)) × (length texts ≡ length (wanted self.now)) × holds self.now texts held }
         ensures { (texts : List (List ℕ)) → length texts ≡ length (wanted self.now) → holds self.now texts held
-            → WriteEnds (judges self.now texts) (explains self.now texts) (takes self.now) (S.written out.old) (S.written out.new) (S.faults out.old)
-            (S.faults out.new) result };
+            → WriteEnds (judges self.now texts) (explains self.now texts) (takes self.now) (S.written out) (S.written result.sink)
+            (S.faults out) (S.faults result.sink) result.ended };
 }

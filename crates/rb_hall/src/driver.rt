@@ -3,11 +3,11 @@ ghost use Rattle.std.specs.Prelude.{◌≡◌, ◌≤◌, ◌-◌, ℕ, List, []
 ghost use Rattle.rb_hall.specs.Judgement.{Limited, Wants};
 ghost use Rattle.rb_hall.specs.Answers.{Answers, ReadAll, StopsReading, scene_of};
 ghost use Rattle.rb_hall.specs.Complete.{IsComplete};
-ghost use Rattle.rb_hall.specs.Ends.{IsRefused, JudgesText};
+ghost use Rattle.rb_hall.specs.Ends.{EndsAfter, IsRefused, JudgesText};
 
-use crate::command::{Command, Stop, Unwritten};
+use crate::command::{Command, Stop, Unwritten, Written};
 use crate::fault::Fault;
-use crate::outcome::{Outcome, Refusal};
+use crate::outcome::{Carried, Outcome, Refusal};
 use crate::read::{Unread, read_file};
 use rb_outside::{Shelf, Sink};
 use std::alloc::Global;
@@ -37,72 +37,107 @@ pub struct Gathered<'s, H: Drop> {
 
 /// Carries out a command: reads and judges its files in their order, stops at the first that is refused, and writes the line of the refusal, or
 /// the text of the command. The texts stay in the slots, of which there are as many as files.
-pub fn drive<'s, C: Command<'s>, F: Shelf, S: Sink>(
+pub fn drive<'s, C: Command<'s>, F: Shelf, S: Sink + Drop>(
     alloc: Global,
     command: &C,
     slots: &'s mut [Vec<u8>],
     shelf: &mut F,
-    out: &mut S,
-) -> Outcome<'s, C::Why>
+    out: S,
+) -> Carried<'s, S, C::Why>
     requires { length (C.wanted command.now) ≤ length slots.old }
     ensures files { F.files shelf.new ≡ F.files shelf.old }
     ensures untouched { C.wanted command.now ≡ [] → shelf.new ≡ shelf.old }
     ensures answers { Answers (Limited (C.judges command.now) (C.wanted command.now)) (C.explains command.now) (C.wanted command.now) (C.takes command.now)
-        (scene_of F.files F.starts F.faults S.written S.faults shelf.old out.old)
-        (scene_of F.files F.starts F.faults S.written S.faults shelf.new out.new)
-        result }
+        (scene_of F.files F.starts F.faults S.written S.faults shelf.old out)
+        (scene_of F.files F.starts F.faults S.written S.faults shelf.new result.sink)
+        result.outcome }
     ensures complete { IsComplete (Limited (C.judges command.now) (C.wanted command.now)) (C.wanted command.now)
-        (scene_of F.files F.starts F.faults S.written S.faults shelf.old out.old)
-        (scene_of F.files F.starts F.faults S.written S.faults shelf.new out.new)
-        result }
+        (scene_of F.files F.starts F.faults S.written S.faults shelf.old out)
+        (scene_of F.files F.starts F.faults S.written S.faults shelf.new result.sink)
+        result.outcome }
 {
     carry(alloc, command, slots, shelf, out)
 }
 
 // The same, each answer with its cause.
-fn carry<'s, C: Command<'s>, F: Shelf, S: Sink>(
+fn carry<'s, C: Command<'s>, F: Shelf, S: Sink + Drop>(
     alloc: Global,
     command: &C,
     slots: &'s mut [Vec<u8>],
     shelf: &mut F,
-    out: &mut S,
-) -> Outcome<'s, C::Why>
+    out: S,
+) -> Carried<'s, S, C::Why>
     requires { length (C.wanted command.now) ≤ length slots.old }
     ensures files { F.files shelf.new ≡ F.files shelf.old }
     ensures untouched { C.wanted command.now ≡ [] → shelf.new ≡ shelf.old }
     ensures answers { Answers (Limited (C.judges command.now) (C.wanted command.now)) (C.explains command.now) (C.wanted command.now) (C.takes command.now)
-        (scene_of F.files F.starts F.faults S.written S.faults shelf.old out.old)
-        (scene_of F.files F.starts F.faults S.written S.faults shelf.new out.new)
-        result }
+        (scene_of F.files F.starts F.faults S.written S.faults shelf.old out)
+        (scene_of F.files F.starts F.faults S.written S.faults shelf.new result.sink)
+        result.outcome }
 {
     match gather(alloc, command, slots, shelf) {
-        Ok(Gathered { held, number, text }) => match command.write(alloc, held, out) {
-            Ok(()) => Outcome::Done,
-            Err(Unwritten::Refused(fault, why)) => refuse(
-                Refusal {
-                    fault,
-                    number,
-                    text,
-                    why: Some(why),
-                },
-                out,
-            ),
-            Err(Unwritten::Fault) => Outcome::WriteFault,
-            Err(Unwritten::Memory) => Outcome::Memory,
-        },
+        Ok(Gathered { held, number, text }) => {
+            after_writing(command.write(alloc, held, out), number, text)
+        }
         Err(Halted::Refused(refusal)) => refuse(refusal, out),
-        Err(Halted::ReadFault(number)) => Outcome::ReadFault(number),
-        Err(Halted::Memory) => Outcome::Memory,
+        Err(Halted::ReadFault(number)) => Carried {
+            sink: out,
+            outcome: Outcome::ReadFault(number),
+        },
+        Err(Halted::Memory) => Carried {
+            sink: out,
+            outcome: Outcome::Memory,
+        },
+    }
+}
+
+// How the call ends after a command wrote; of a refusal the line is still to be written, of the last text, which has this number.
+fn after_writing<'s, S: Sink + Drop, W: Drop>(
+    written: Written<S, W>,
+    number: usize,
+    text: &'s [u8],
+) -> Carried<'s, S, W>
+    ensures { EndsAfter written.ended number text.now (S.written written.sink) (S.written result.sink) (S.faults written.sink) (S.faults result.sink)
+        result.outcome }
+{
+    let Written { sink, ended } = written;
+    match ended {
+        Ok(()) => Carried {
+            sink,
+            outcome: Outcome::Done,
+        },
+        Err(Unwritten::Refused(fault, why)) => refuse(
+            Refusal {
+                fault,
+                number,
+                text,
+                why: Some(why),
+            },
+            sink,
+        ),
+        Err(Unwritten::Fault) => Carried {
+            sink,
+            outcome: Outcome::WriteFault,
+        },
+        Err(Unwritten::Memory) => Carried {
+            sink,
+            outcome: Outcome::Memory,
+        },
     }
 }
 
 // Writes the line of a refusal.
-fn refuse<'s, W: Drop, S: Sink>(refusal: Refusal<'s, W>, out: &mut S) -> Outcome<'s, W>
-    ensures { IsRefused refusal.entry (S.written out.old) (S.written out.new) (S.faults out.old) (S.faults out.new) result }
+fn refuse<'s, W: Drop, S: Sink + Drop>(refusal: Refusal<'s, W>, out: S) -> Carried<'s, S, W>
+    ensures { IsRefused refusal.entry (S.written out) (S.written result.sink) (S.faults out) (S.faults result.sink) result.outcome }
 {
-    match refusal.fault.put_line(out) {
-        Ok(()) => Outcome::Refused(refusal),
-        Err(_) => Outcome::WriteFault,
+    let mut sink = out;
+    let put = refusal.fault.put_line(&mut sink);
+    Carried {
+        sink,
+        outcome: match put {
+            Ok(()) => Outcome::Refused(refusal),
+            Err(_) => Outcome::WriteFault,
+        },
     }
 }
 

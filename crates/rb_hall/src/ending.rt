@@ -7,16 +7,9 @@ ghost use Rattle.rb_hall.specs.Ending.{IsUnwritten, EndsBehind, Finishes, IsPass
 
 use crate::command::Command;
 use crate::driver::drive;
-use crate::outcome::Outcome;
+use crate::outcome::{Carried, Outcome};
 use rb_outside::{Buffered, Shelf, Sink, buffer_memory};
 use std::alloc::Global;
-
-/// The sink that a command wrote to, and how it ended.
-#[derive(Drop)]
-pub struct Carried<'s, S, W: Drop> {
-    pub sink: S,
-    pub outcome: Outcome<'s, W>,
-}
 
 /// Carries out a command, as `drive` does, with a buffer before the sink: what was written reaches the sink in the end, or that is a fault of
 /// its own. After a put that failed there is no other. Nothing may have been written to the sink before.
@@ -42,9 +35,9 @@ pub fn carry_out<'s, C: Command<'s>, F: Shelf, S: Sink + Drop>(
             outcome: Outcome::Memory,
         };
     };
-    let mut buffered = Buffered::over(out, memory);
-    let outcome = drive(alloc, command, slots, shelf, &mut buffered);
-    let ended = finish(&mut buffered, outcome);
+    let carried = drive(alloc, command, slots, shelf, Buffered::over(out, memory));
+    let mut buffered = carried.sink;
+    let ended = finish(&mut buffered, carried.outcome);
     Carried {
         sink: buffered.into_sink(),
         outcome: ended,

@@ -8,8 +8,8 @@ pub mod fault;
 pub mod outcome;
 pub mod read;
 
-pub use command::{Command, Stop, Unwritten, Wanted};
+pub use command::{Command, Stop, Unwritten, Wanted, Written};
 pub use driver::drive;
-pub use ending::{Carried, carry_out};
+pub use ending::carry_out;
 pub use fault::Fault;
-pub use outcome::{Outcome, Refusal};
+pub use outcome::{Carried, Outcome, Refusal};

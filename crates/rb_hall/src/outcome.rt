@@ -23,3 +23,10 @@ pub enum Outcome<'s, W: Drop> {
     WriteFault,
     Memory,
 }
+
+/// The sink that a command wrote to, and how it ended.
+#[derive(Drop)]
+pub struct Carried<'s, S: Drop, W: Drop> {
+    pub sink: S,
+    pub outcome: Outcome<'s, W>,
+}

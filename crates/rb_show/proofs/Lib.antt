@@ -1,5 +1,5 @@
 mod CommandLine
-mod Drawings
+mod Held
 mod Putting
 mod Ready
 mod Wishes

@@ -1,16 +1,15 @@
 -- Writes that are told of in other words.
-use Rattle.std.proofs.Common.{◌≡◌, ℕ, List, ◌++◌, Option, Result, Ok, MatchResult, refl, subst}
+use Rattle.std.proofs.Common.{◌≡◌, ℕ, List, ◌++◌, Option, Result, Ok, Err, MatchResult, subst, sym}
 use Rattle.rb_outside.specs.declared.Failed.{Failed}
 use Rattle.rb_outside.specs.Outside.{Faults}
 use Rattle.rb_outside.specs.Puts.{Puts}
 use Rattle.rb_outside.proofs.Puts.{puts_both, puts_same}
 use Rattle.rb_page.specs.Escape.{escaped}
 use Rattle.rb_page.specs.Page.{before_trace, page_text, parts_of}
-use Rattle.rb_stages.specs.declared.status.Status.{Status}
-use Rattle.rb_stages.specs.declared.status.Status.TheVariants.{Done, WriteFault}
-use Rattle.rb_stages.specs.Judgement.{Writes}
-use Rattle.rb_stages.specs.Stages.{StageEnds}
-use Rattle.rb_stages.proofs.Answering.{text_ends}
+use Rattle.rb_hall.specs.declared.command.Unwritten.{Unwritten}
+use Rattle.rb_hall.specs.declared.command.Unwritten.TheVariants as unwritten
+use Rattle.rb_commands.specs.Written.{PutsOrMemory}
+use Rattle.rb_commands.specs.declared.why.Why.{Why}
 
 -- from another name for how the sink was
 pub put_from : {T E : Type 0} (bytes : List ℕ) (v w now : Option (List ℕ)) (e f after : Faults) (r : Result T E) → v ≡ w → e ≡ f
@@ -40,8 +39,9 @@ put_filled page source text trace a b c d ea eb ec ed w0 w1 w2 f0 f1 f2 v s firs
     (page_filled page source text trace a b c d ea eb ec ed)
     (puts_both (before_trace a b c source text) (escaped trace ++ d) w0 w1 w2 f0 f1 f2 v s first second)
 
--- a stage that wrote this text
-pub text_written : (text : List ℕ) (r : Result (Unit {0}) Failed) (status : Status) (w0 w1 : Option (List ℕ)) (f0 f1 : Faults)
-    → Puts text w0 w1 f0 f1 r → MatchResult r (λ _. status ≡ Done) (λ _. status ≡ WriteFault)
-    → StageEnds (λ judgement. judgement ≡ Writes text) w0 w1 f0 f1 status
-text_written text r status w0 w1 f0 f1 put e = text_ends (λ judgement. judgement ≡ Writes text) r status text w0 w1 f0 f1 put e refl
+-- how a command ends that put this text
+pub text_put : (text : List ℕ) (r : Result (Unit {0}) Failed) (ended : Result (Unit {0}) (Unwritten Why)) (old new : Option (List ℕ))
+    (before after : Faults) → Puts text old new before after r
+    → MatchResult r (λ done. ended ≡ Ok done) (λ _. ended ≡ Err unwritten.Fault) → PutsOrMemory text old new before after ended
+text_put text (Ok done) ended old new before after put is = subst (PutsOrMemory text old new before after) (sym is) (put.ok, put.quiet)
+text_put text (Err failed) ended old new before after put is = subst (PutsOrMemory text old new before after) (sym is) (put.err, put.failed)

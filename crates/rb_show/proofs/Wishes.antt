@@ -1,42 +1,68 @@
--- What the words ask for, and what a call comes to that asks for it.
-use Rattle.std.proofs.Common.{◌≡◌, ◌⊎◌, ℕ, List, Option, Some, None, Result, Ok, Err, MatchResult, inl, inr, refl, sym, subst}
-use Rattle.rb_outside.specs.declared.Failed.{Failed}
-use Rattle.rb_outside.specs.Puts.{Puts}
-use Rattle.rb_reasons.specs.Names.{name_of}
-use Rattle.rb_stages.specs.Answers.{ReadsNothing, Scene, WritesAll, WritesPart}
-use Rattle.rb_stages.specs.declared.status.Status.{Status}
-use Rattle.rb_stages.specs.declared.status.Status.TheVariants.{Done, Memory, Usage, WriteFault}
-use Rattle.rb_stages.proofs.Answering.{memory_at_once}
-use Rattle.rb_top.proofs.Complete.{completed}
-use Rattle.rb_show.specs.Answers.{CompleteWhereDrawn, Explained, TellsOnly, WhereWished, usage_line}
-use Rattle.rb_show.specs.Words.{Wish, Draws, Explains}
-
--- memory was wanting at once
-pub memory_wished : (wish : Option Wish) (scene : Scene) → WhereWished wish scene scene Memory
-memory_wished None scene = inr (refl, record { starts = refl; faults = refl }, record { written = refl; faults = refl })
-memory_wished (Some (Explains name)) scene = inr (refl, record { starts = refl; faults = refl }, record { written = refl; faults = refl })
-memory_wished (Some (Draws request)) scene = memory_at_once (Some request) scene
-
--- what each answer says makes the call complete
-pub complete_wished : (wish : Option Wish) (old new : Scene) (status : Status) → WhereWished wish old new status
-    → CompleteWhereDrawn wish old new status
-complete_wished None old new status h = tt
-complete_wished (Some (Explains name)) old new status h = tt
-complete_wished (Some (Draws request)) old new status h = completed request old new status h
+-- What is carried out for a name: the text that has it, or the line that shows the commands.
+use Rattle.std.proofs.Common.{◌≡◌, ℕ, nat_eq, Bool, true, false, cond, List, [], ◌∷◌, Option, Some, None, refl, sym, subst, ◌&&◌}
+use Rattle.std.specs.List.{find, list_all}
+use Rattle.std.specs.Cmp.Lexicographic.{pointwise, same_text}
+use Rattle.rb_outside.specs.Outside.{Faults, File, Start, went_well}
+use Rattle.rb_reasons.specs.Names.{name_of, names}
+use Rattle.rb_hall.specs.declared.outcome.Outcome.TheVariants as out
+use Rattle.rb_hall.proofs.Behind.{ends_without_memory}
+use Rattle.rb_verdict.specs.Judging.{JudgesWithin, TakesWhileWriting}
+use Rattle.rb_verdict.specs.Words.{Request, usage_of}
+use Rattle.rb_show.specs.Entrance.{WishedEnds}
+use Rattle.rb_show.specs.Wished.{Explained, IsWished, explain_of, explains_of}
+use Rattle.rb_show.specs.Words.{Wish, Draws, Explains, usage_line}
 
 -- a text of this name was found
-pub explained_by : (found : Option (List ℕ)) (text : List ℕ) (old new : Scene) (status : Status) → Some (name_of text) ≡ found
-    → TellsOnly text Done old new status → Explained found old new status
-explained_by found text old new status is tells = subst (λ (o : Option (List ℕ)). Explained o old new status) is (text, refl, tells)
+pub explained_by : (found : Option (List ℕ)) (text : List ℕ) → Some (name_of text) ≡ found → Explained found (explain_of text)
+explained_by found text is = subst (λ (o : Option (List ℕ)). Explained o (explain_of text)) is (text, refl, refl)
 
 -- or none
-pub explained_none : (found : Option (List ℕ)) (old new : Scene) (status : Status) → None ≡ found → TellsOnly usage_line Usage old new status
-    → Explained found old new status
-explained_none found old new status is tells = subst (λ (o : Option (List ℕ)). Explained o old new status) is tells
+pub explained_none : (found : Option (List ℕ)) (request : Request) → None ≡ found → request ≡ usage_of usage_line → Explained found request
+explained_none found request is shows = subst (λ (o : Option (List ℕ)). Explained o request) is shows
 
--- a text that was put
-pub told_only : (text : List ℕ) (ending status : Status) (old new : Scene) (r : Result (Unit {0}) Failed) → ReadsNothing old new
-    → Puts text old.written new.written old.write_faults new.write_faults r
-    → MatchResult r (λ _. status ≡ ending) (λ _. status ≡ WriteFault) → TellsOnly text ending old new status
-told_only text ending status old new (Ok done) nothing put ends = (nothing, inl (ends, record { written = put.ok; well = put.quiet }))
-told_only text ending status old new (Err failed) nothing put ends = (nothing, inr (ends, record { written = put.err; failed = put.failed }))
+-- ---- where memory was wanting to read the words
+
+-- this name is that of a text
+abbrev is_its_name : List ℕ → Bool
+is_its_name name = pointwise nat_eq (name_of name) name
+
+both : (a b : Bool) → (a && b) ≡ true → (a ≡ true) × (b ≡ true)
+both true b e = (refl, e)
+both false b e = absurd (cc)
+
+found_or : (hit : Bool) (name : List ℕ) (rest : Option (List ℕ)) → name_of name ≡ name → (request : Request) × Explained rest request
+    → (request : Request) × Explained (cond hit (Some name) rest) request
+found_or true name rest is later = (explain_of name, (name, is, refl))
+found_or false name rest is later = later
+
+explained_in : (test : List ℕ → Bool) (words : List (List ℕ)) → list_all is_its_name words ≡ true → (request : Request) × Explained (find test words) request
+explained_in test [] all = (usage_of usage_line, refl)
+explained_in test (word ∷ words) all =
+    let each = both (is_its_name word) (list_all is_its_name words) all in
+    found_or (test word) word (find test words) (same_text (name_of word) word (sym each.0)) (explained_in test words each.1)
+
+-- something is carried out for each wish
+wished_request : (wish : Option Wish) → (request : Request) × IsWished wish request
+wished_request None = (usage_of usage_line, refl)
+wished_request (Some (Explains name)) = explained_in (λ word. pointwise nat_eq word name) names refl
+wished_request (Some (Draws request)) = (request, refl)
+
+pub wished_without_memory : (wish : Option Wish) (files : Option (List File)) (starts : List Start) (r f : Faults) (w : Option (List ℕ))
+    (told : Option (List ℕ)) (faults : Faults)
+    → WishedEnds wish
+    (record { files = files; starts = starts; read_faults = r; written = w; write_faults = went_well f })
+    (record { files = files; starts = starts; read_faults = r; written = w; write_faults = f })
+    told told faults faults 5
+wished_without_memory wish files starts r f w told faults =
+    let (request, is) = wished_request wish in (
+      request,
+      is,
+      record {
+        outcome = out.Memory;
+        is = refl;
+        ends = ends_without_memory (JudgesWithin request) (explains_of request.command) request.files (TakesWhileWriting request.command)
+            files starts r f w;
+        untouched = λ none. (refl, refl);
+        tells = (refl, refl);
+      },
+    )

@@ -1,6 +1,6 @@
-pub mod Words
 pub mod CommandLine
-pub mod Wished
-pub mod Traced
 pub mod Drawing
-pub mod Answers
+pub mod Entrance
+pub mod Traced
+pub mod Wished
+pub mod Words

@@ -4,7 +4,7 @@ use Rattle.std.specs.List.{list_all}
 use Rattle.std.specs.Cmp.Lexicographic.{pointwise}
 use Rattle.rb_words.specs.Given.{with_one, with_three, with_two}
 use Rattle.rb_words.specs.Plain.{is_plain_word}
-use Rattle.rb_stages.specs.Words.{Request, page_of, trace_of}
+use Rattle.rb_verdict.specs.Words.{Request, page_of, trace_of}
 
 -- what they ask for: what a fault or a cause of this name means, or a trace, by itself or in a page
 pub data Wish : Type 0 where
@@ -30,3 +30,7 @@ wished name words =
 abbrev pub wish_of : List (List ℕ) → Option Wish
 wish_of [] = None
 wish_of (name ∷ words) = cond (list_all is_plain_word words) (wished name words) None
+
+-- the line that shows the commands
+abbrev pub usage_line : List ℕ
+usage_line = codes "usage: rblview explain NAME | trace SOURCE SCHEDULE | page PAGE SOURCE SCHEDULE\n"

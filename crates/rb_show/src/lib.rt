@@ -1,12 +1,14 @@
-//! The top call of `rblview`: what a fault or a cause means, and the trace of a run, by itself or in a page.
+//! The program `rblview` from its words to its exit status: what a fault or a cause means, and the trace of a run, by itself or in a page.
 #![tactic(auto)]
 
-pub mod draw;
-pub mod program;
+pub mod asking;
+pub mod entrance;
+pub mod page;
 pub mod put_run;
 pub mod request;
-pub mod top;
+pub mod trace;
 pub mod traced;
 
-pub use program::run_program;
-pub use top::{Shown, command};
+pub use asking::requested;
+pub use entrance::hall;
+pub use request::{Wish, command};

@@ -1,5 +1,5 @@
 //! A run that is written turn by turn: its trace, by itself or in a page.
-ghost use Rattle.std.specs.Prelude.{◌≡◌, ◌≤◌, ◌<◌, ◌++◌, ℕ, List, Option, length, option_map};
+ghost use Rattle.std.specs.Prelude.{◌≡◌, ◌≤◌, ◌<◌, ◌++◌, ℕ, false, List, Option, length, option_map, Ok, Err, MatchResult};
 ghost use Rattle.rb_outside.specs.Outside.{Faults};
 ghost use Rattle.rb_base.specs.declared.limits.TheConstants.{MOST_TURNS};
 ghost use Rattle.rb_code.specs.Instructions.Plain.{code as plain};
@@ -12,26 +12,61 @@ ghost use Rattle.rb_page.specs.Escape.{escaped};
 ghost use Rattle.rb_page.specs.Page.{page_text};
 ghost use Rattle.rb_picture.specs.Trace.{before_opening, trace_text};
 ghost use Rattle.rb_run.specs.Running.{NamesFit};
-ghost use Rattle.rb_stages.specs.Judgement.{Writes};
-ghost use Rattle.rb_stages.specs.Stages.{StageEnds};
-ghost use Rattle.rb_show.specs.Drawing.{text_in};
+ghost use Rattle.rb_commands.specs.Written.{PutsOrMemory};
+ghost use Rattle.rb_show.specs.Drawing.{EndsDrawn, text_in};
+ghost use Rattle.rb_show.specs.Traced.{IsTraced};
 
-use crate::top::Shown;
 use crate::traced::Traced;
-use rb_base::Steps;
+use rb_base::{MOST_BYTES, Steps};
+use rb_commands::Why;
+use rb_hall::{Fault, Unwritten, Written};
 use rb_machine::Machine;
 use rb_outside::{Failed, Sink, put_all};
 use rb_page::{Escaped, Page};
 use rb_sched::Schedule;
-use rb_stages::Status;
-use rb_stages::status::status_after;
 use rb_view::{Was, write_trace};
 use std::alloc::Global;
+use std::marker::Brand;
 use std::sync::ledger::{Blank, Ledger};
 
-/// Runs the code of a source over the turns of a schedule, and writes the trace of the run, in a page with the texts of both if there is one.
-/// The ledger counts steps, which contracts alone see.
-pub fn draw_turns<S: Sink + Drop, L: Ledger>(
+/// Judges a schedule for a source, and writes the trace of the run of the one over the other, in a page with the texts of both if there is one.
+pub fn draw<S: Sink + Drop>(
+    alloc: Global,
+    page: Option<&[u8]>,
+    source: &[u8],
+    traced: Traced,
+    schedule: &[u8],
+    out: S,
+) -> Written<S, Why>
+    requires traced { IsTraced source.now traced }
+    requires short { length schedule.now ≤ MOST_BYTES }
+    ensures { (ready : IsTraced source.now traced) → EndsDrawn (option_map (λ p. p.now) page.entry) source.now ready.prepared.tree schedule.now
+        (S.written out) (S.written result.sink) (S.faults out) (S.faults result.sink) result.ended }
+{
+    let fault = match Schedule::read(schedule, &traced.prepared.code.names) {
+        Ok(turns) => {
+            return draw_turns::<S, Brand>(
+                alloc,
+                page,
+                source,
+                schedule,
+                &traced,
+                turns,
+                out,
+                Blank::new(1),
+            );
+        }
+        Err(fault) => fault,
+    };
+    Written {
+        sink: out,
+        ended: Err(Unwritten::Refused(Fault::Text(fault), Why::Names(traced.into_names()))),
+    }
+}
+
+// Runs the code of a source over the turns of a schedule, and writes the trace of the run, in a page with the texts of both if there is one.
+// The ledger counts steps, which contracts alone see.
+fn draw_turns<S: Sink + Drop, L: Ledger>(
     alloc: Global,
     page: Option<&[u8]>,
     source: &[u8],
@@ -40,7 +75,7 @@ pub fn draw_turns<S: Sink + Drop, L: Ledger>(
     schedule: Schedule<'_>,
     out: S,
     blank: Blank,
-) -> Shown<S>
+) -> Written<S, Why>
     requires name { blank.name ≡ L.name }
     requires parts { blank.parts ≡ L.parts }
     requires backed { 0 < blank.parts }
@@ -48,17 +83,16 @@ pub fn draw_turns<S: Sink + Drop, L: Ledger>(
     requires fit { NamesFit (plain traced.now.prepared.code) traced.now.prepared.code.names }
     requires whole { schedule.left ≡ schedule.all }
     requires turns { length schedule.left ≤ MOST_TURNS }
-    ensures { StageEnds
-        (λ judgement. judgement ≡ Writes (text_in (option_map (λ p. p.now) page.entry) source.now text.now
+    ensures { PutsOrMemory (text_in (option_map (λ p. p.now) page.entry) source.now text.now
         (trace_text (plain traced.now.prepared.code) (memberships (opening traced.now.prepared.nested)) (counts_of (opening traced.now.prepared.nested))
-        traced.now.places.items schedule.entry.all)))
-        (S.written out) (S.written result.sink) (S.faults out) (S.faults result.sink) result.status }
+        traced.now.places.items schedule.entry.all))
+        (S.written out) (S.written result.sink) (S.faults out) (S.faults result.sink) result.ended }
 {
     let mut steps = Steps::<L>::start(blank);
     let turns = schedule.turns();
     let prepared = &traced.prepared;
     let Ok(mut was) = Was::new(alloc, &prepared.code, &prepared.nested) else {
-        return Shown::short_of_memory(out);
+        return short_of_memory(out);
     };
     match Machine::load(alloc, &prepared.code, &prepared.nested, turns, &mut steps) {
         Ok(mut machine) => {
@@ -73,12 +107,32 @@ pub fn draw_turns<S: Sink + Drop, L: Ledger>(
                 out,
                 &mut steps,
             );
-            Shown {
+            Written {
                 sink,
-                status: status_after(written, Status::Done),
+                ended: unwritten_after(written),
             }
         }
-        Err(_) => Shown::short_of_memory(out),
+        Err(_) => short_of_memory(out),
+    }
+}
+
+// Memory was wanting before anything was written.
+fn short_of_memory<S: Sink + Drop>(sink: S) -> Written<S, Why>
+    ensures { result ≡ record { sink = sink; ended = Err Unwritten.Memory } }
+{
+    Written {
+        sink,
+        ended: Err(Unwritten::Memory),
+    }
+}
+
+// How a command ends after its text was put.
+fn unwritten_after(put: Result<(), Failed>) -> Result<(), Unwritten<Why>>
+    ensures { MatchResult put (λ done. result ≡ Ok done) (λ _. result ≡ Err Unwritten.Fault) }
+{
+    match put {
+        Ok(()) => Ok(()),
+        Err(_) => Err(Unwritten::Fault),
     }
 }
 
@@ -94,7 +148,7 @@ fn put_in<S: Sink, L: Ledger>(
     out: S,
     steps: &mut Steps<L>,
 ) -> (S, Result<(), Failed>)
-    requires fresh { machine.old ≡ opening_seen (plain traced.now.prepared.code) (memberships (opening traced.now.prepared.nested)) machine.old.most }
+    requires fresh { machine.old ≡ opening_seen (plain traced.now.prepared.code) (memberships (opening traced.now.prepared.nested)) false machine.old.most }
     requires fit { NamesFit (plain traced.now.prepared.code) traced.now.prepared.code.names }
     requires before { was.old ≡ before_opening (plain traced.now.prepared.code) (memberships (opening traced.now.prepared.nested)) }
     requires whole { schedule.left ≡ schedule.all }
@@ -138,7 +192,7 @@ fn put_page<S: Sink, L: Ledger>(
     out: S,
     steps: &mut Steps<L>,
 ) -> (S, Result<(), Failed>)
-    requires fresh { machine.old ≡ opening_seen (plain traced.now.prepared.code) (memberships (opening traced.now.prepared.nested)) machine.old.most }
+    requires fresh { machine.old ≡ opening_seen (plain traced.now.prepared.code) (memberships (opening traced.now.prepared.nested)) false machine.old.most }
     requires fit { NamesFit (plain traced.now.prepared.code) traced.now.prepared.code.names }
     requires before { was.old ≡ before_opening (plain traced.now.prepared.code) (memberships (opening traced.now.prepared.nested)) }
     requires whole { schedule.left ≡ schedule.all }
@@ -178,7 +232,7 @@ fn put_escaped_trace<S: Sink, L: Ledger>(
     out: S,
     steps: &mut Steps<L>,
 ) -> (S, Result<(), Failed>)
-    requires fresh { machine.old ≡ opening_seen (plain traced.now.prepared.code) (memberships (opening traced.now.prepared.nested)) machine.old.most }
+    requires fresh { machine.old ≡ opening_seen (plain traced.now.prepared.code) (memberships (opening traced.now.prepared.nested)) false machine.old.most }
     requires fit { NamesFit (plain traced.now.prepared.code) traced.now.prepared.code.names }
     requires before { was.old ≡ before_opening (plain traced.now.prepared.code) (memberships (opening traced.now.prepared.nested)) }
     requires whole { schedule.left ≡ schedule.all }

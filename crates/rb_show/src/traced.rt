@@ -1,18 +1,17 @@
 //! A source that is ready to be traced: its code, and where in the source each turn of the code stands.
-ghost use Rattle.std.specs.Prelude.{◌≡◌, ◌≤◌, length, IfOk, IfErr, OnOk};
-ghost use Rattle.rb_base.specs.declared.limits.TheConstants.{MOST_BYTES};
+ghost use Rattle.std.specs.Prelude.{◌≡◌, ◌≤◌, length, IfOk};
 ghost use Rattle.rb_judge.specs.Judged.{IsJudged};
-ghost use Rattle.rb_stages.specs.Stages.{EndsForSource, StageEnds};
+ghost use Rattle.rb_commands.specs.Held.{StopsForSource};
 ghost use Rattle.rb_show.specs.Traced.{IsTraced};
 
-use rb_base::{Memory, Place};
-use rb_commands::source::judged_source;
+use rb_base::{MOST_BYTES, Memory, Names, Place};
+use rb_commands::Why;
+use rb_commands::source::judge_source;
 use rb_gen::generate;
+use rb_hall::Stop;
 use rb_judge::Judged;
-use rb_outside::Sink;
 use rb_picture::places_of;
 use rb_prepare::Prepared;
-use rb_stages::Status;
 use std::alloc::Global;
 
 /// An accepted source as it is traced.
@@ -24,18 +23,25 @@ pub struct Traced {
     pub places: Vec<Option<Place>>,
 }
 
-/// Judges a source by the bytes that were read of it, and makes it ready. Where it is refused, its line is written, and the call ends so.
-pub fn traced_source<S: Sink>(alloc: Global, bytes: &[u8], out: &mut S) -> Result<Traced, Status>
-    ensures traced { IfOk result (IsTraced bytes.now) }
-    ensures short { OnOk result (length bytes.now ≤ MOST_BYTES) }
-    ensures written { OnOk result (S.written out.new ≡ S.written out.old) }
-    ensures faults { OnOk result (S.faults out.new ≡ S.faults out.old) }
-    ensures ended { IfErr result (StageEnds (EndsForSource bytes.now) (S.written out.old) (S.written out.new) (S.faults out.old) (S.faults out.new)) }
+impl Traced {
+    /// The names alone; the rest is let go.
+    pub fn into_names(self) -> Names
+        ensures { result ≡ self.prepared.code.names }
+    {
+        self.prepared.into_names()
+    }
+}
+
+/// Judges a source, and makes it ready.
+pub fn trace_source(alloc: Global, text: &[u8]) -> Result<Traced, Stop<Why>>
+    requires { length text.now ≤ MOST_BYTES }
+    ensures traced { IfOk result (IsTraced text.now) }
+    ensures refused { StopsForSource text.now result }
 {
-    let judged = judged_source(alloc, bytes, out)?;
-    match with_code(alloc, bytes, judged) {
+    let judged = judge_source(alloc, text)?;
+    match with_code(alloc, text, judged) {
         Ok(traced) => Ok(traced),
-        Err(_) => Err(Status::Memory),
+        Err(_) => Err(Stop::Memory),
     }
 }
 

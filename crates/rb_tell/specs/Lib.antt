@@ -1,1 +1,4 @@
+pub mod Given
 pub mod Reasons
+pub mod Telling
+pub mod Entrance

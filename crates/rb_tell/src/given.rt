@@ -1,37 +1,39 @@
 //! The words that the host gives.
-ghost use Rattle.std.specs.Prelude.{◌≡◌, IfErr};
-ghost use Rattle.rb_stages.specs.Ending.{IsExitStatus, no_text};
+ghost use Rattle.std.specs.Prelude.{◌≡◌, map, string_bytes, MatchResult};
+ghost use Rattle.std.specs.IoError.{error_kind};
+ghost use Rattle.std.specs.Vec.Iter.{into_iter_items};
+ghost use Rattle.rb_tell.specs.Given.{IsWordsOf, IsWithoutWords};
 
-use rb_top::{Status, Words};
-use std::env;
+use rb_commands::Words;
+use std::alloc::Global;
+use std::env::Args;
 use std::io::ErrorKind;
 use std::rt::Env;
+use std::{env, io};
+
+/// The exit status where memory is wanting.
+const NO_MEMORY: u8 = 5;
 
 /// The exit status where the words of the command line are no text.
 const NO_TEXT: u8 = 6;
 
 /// The words of the command line behind the name of the program; or the exit status where memory is wanting for them, or where they are no text.
-pub fn words_given<R: Env + AllocGlobal>(rt: &R) -> Result<Words, u8>
-    ensures { IfErr result IsExitStatus }
-{
-    match env::args(rt) {
-        Ok(given) => match Words::after_name(rt.alloc(), given) {
-            Ok(words) => Ok(words),
-            Err(_) => Err(Status::Memory.number()),
-        },
-        Err(error) => Err(number_without_words(error.kind())),
-    }
+pub fn words_given<R: Env + AllocGlobal>(rt: &R) -> Result<Words, u8> {
+    words_of(rt.alloc(), env::args(rt))
 }
 
-// The exit status where the system gives no words: for want of memory, or since they are no text.
-fn number_without_words(kind: ErrorKind) -> u8
-    ensures status { IsExitStatus result }
-    ensures memory { kind ≡ ErrorKind.OutOfMemory → result ≡ 5 }
-    ensures others { (kind ≡ ErrorKind.OutOfMemory → ⊥) → result ≡ no_text }
+/// The same of what the system answered: all words behind the first, unless memory is wanting for them; where it gave no words, 5 if that was
+/// for want of memory, and else 6.
+pub fn words_of(alloc: Global, given: io::Result<Args>) -> Result<Words, u8>
+    ensures { MatchResult given (λ args. IsWordsOf (map string_bytes (into_iter_items args)) result)
+        (λ error. IsWithoutWords (error_kind error ≡ ErrorKind.OutOfMemory) result) }
 {
-    if kind == ErrorKind::OutOfMemory {
-        Status::Memory.number()
-    } else {
-        NO_TEXT
+    match given {
+        Ok(args) => match Words::after_name(alloc, args) {
+            Ok(words) => Ok(words),
+            Err(_) => Err(NO_MEMORY),
+        },
+        Err(error) if error.kind() == ErrorKind::OutOfMemory => Err(NO_MEMORY),
+        Err(_) => Err(NO_TEXT),
     }
 }

@@ -1,15 +1,14 @@
-//! The program `rbl` around its top call: the host's words, files and output, and why a text was refused, on standard error.
+//! The program `rbl` from its words to its exit status: the call that its `main` makes, what standard error is told of the end of a command,
+//! and the words that the host gives.
 #![tactic(auto)]
 
-pub mod aloud;
+pub mod end;
+pub mod entrance;
 pub mod given;
-pub mod noted;
-pub mod program;
-pub mod reads;
-pub mod why;
+pub mod host;
+pub mod reason;
 
-pub use aloud::{Ended, tell_end};
+pub use end::{End, tell};
+pub use entrance::{Left, hall};
 pub use given::words_given;
-pub use noted::Noted;
-pub use program::run_program;
-pub use reads::Reads;
+pub use host::Blamed;

@@ -1,5 +1,5 @@
 //! Tests of what takes memory, at its limits, and of files and sinks: words, caches, slots, held lines, the table of conversations,
-//! trials, the parser, and the listing of a code that no source has. What the programs write is tested by runs of them (`bench/stored_runs.py`, `bench/refusals.py`).
+//! trials, the parser, and the listing of a code that no source has. What the programs write is tested by runs of them (`./test stored_runs`, `./test refusals`).
 #![tactic(auto)]
 
 #[cfg(test)]

@@ -4,9 +4,8 @@ use Rattle.rb_conv.specs.Conversations.{memberships, opening}
 use Rattle.rb_run.specs.Running.{NamesFit}
 use Rattle.rb_back.specs.Course.{Course, opening_course}
 use Rattle.rb_back.specs.Shown.{session_text}
-use Rattle.rb_stages.specs.Judgement.{Writes}
-use Rattle.rb_stages.proofs.Answering.{following_ends}
-use Rattle.rb_stages.proofs.Loaded.{code_names_fit, is_sound}
+use Rattle.rb_commands.proofs.Following.{following_puts}
+use Rattle.rb_commands.proofs.Loaded.{code_names_fit, is_sound}
 use Rattle.rb_commands.proofs.session.follow.Goals as goal
 
 pub load-requires-clause-sound : goal.load-requires-clause-sound
@@ -32,9 +31,8 @@ returns-in-Ok g c =
     let turns = c.args.turns.all in
     let orders = c.args.script in
     let course = c.in-Ok.session in
-    following_ends
-    (λ judgement. judgement ≡ Writes (session_text (code prepared.code) (memberships (opening prepared.nested)) turns orders))
-    c.show_all.result c.status_of.result (session_text course.code course.groups turns orders)
+    following_puts (session_text course.code course.groups turns orders)
+    (session_text (code prepared.code) (memberships (opening prepared.nested)) turns orders)
+    (ap (λ (s : Course). session_text s.code s.groups turns orders) c.in-Ok.ensures) c.show_all.result c.unwritten_of.result
     (g.S.Sink.written c.args.out.now) (g.S.Sink.written c.show_all.new.out) (g.S.Sink.faults c.args.out.now)
-    (g.S.Sink.faults c.show_all.new.out) c.show_all.ensures.text c.status_of.ensures
-    (ap (λ (s : Course). Writes (session_text s.code s.groups turns orders)) c.in-Ok.ensures)
+    (g.S.Sink.faults c.show_all.new.out) c.show_all.ensures.text c.unwritten_of.ensures

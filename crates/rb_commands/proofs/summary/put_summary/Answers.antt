@@ -4,7 +4,7 @@ use Rattle.rb_make.specs.Trial.{processes_of}
 use Rattle.rb_outside.proofs.Puts.{puts_both, puts_stopped_at}
 use Rattle.rb_run.specs.Counting.{Counted, counts}
 use Rattle.rb_world.specs.Text.{line_of}
-use Rattle.rb_stages.specs.Judgement.{counts_line}
+use Rattle.rb_verdict.specs.Summary.{counts_line}
 use Rattle.rb_commands.proofs.summary.put_summary.Goals as goal
 
 -- a line of a word and a number

@@ -1,12 +1,12 @@
-use Rattle.std.proofs.Common.{◌≡◌, ℕ, length, sym, ap, ap₂, ◌∙◌}
+use Rattle.std.proofs.Common.{◌≡◌, ℕ, false, length, sym, ap, ap₂, ◌∙◌}
 use Rattle.rb_code.specs.Instructions.Plain.{code}
 use Rattle.rb_conv.specs.Conversations.{memberships, opening}
 use Rattle.rb_machine.specs.Machine.{Seen, opening_seen}
 use Rattle.rb_run.specs.Counting.{Counted, counts}
-use Rattle.rb_stages.specs.Judgement.{Writes, summary_of}
-use Rattle.rb_stages.specs.Products.{word_counts}
-use Rattle.rb_stages.proofs.Answering.{text_ends}
-use Rattle.rb_stages.proofs.Loaded.{is_sound}
+use Rattle.rb_verdict.specs.Summary.{summary_of}
+use Rattle.rb_commands.specs.Products.{word_counts}
+use Rattle.rb_commands.proofs.Loaded.{is_sound}
+use Rattle.rb_commands.proofs.Ending.{put_done, put_stopped}
 use Rattle.rb_commands.proofs.trial.try_turns.Goals as goal
 
 pub load-requires-clause-sound : goal.load-requires-clause-sound
@@ -15,7 +15,16 @@ load-requires-clause-sound g c = is_sound c.requires.prepared.0 c.args.prepared.
 pub count-counts-requires-clause-fresh : goal.count-counts-requires-clause-fresh
 count-counts-requires-clause-fresh g c =
     let loaded = c.in-Ok.ensures in
-    loaded ∙ sym (ap (λ (m : Seen). opening_seen m.code m.groups m.most) loaded)
+    loaded ∙ sym (ap (λ (m : Seen). opening_seen m.code m.groups false m.most) loaded)
+
+pub returns-in-Ok-put_summary : goal.returns-in-Ok-put_summary
+returns-in-Ok-put_summary g c =
+    let prepared = c.args.prepared.now in
+    let n = c.args.number in
+    let turns = c.args.schedule.all in
+    let counted : counts c.count-counts.result ≡ word_counts (code prepared.code) (memberships (opening prepared.nested)) turns =
+    c.count-counts.ensures.counts ∙ ap (λ (m : Seen). word_counts m.code m.groups turns) c.in-Ok.ensures in
+    put_done _ _ (ap₂ (summary_of n) c.turns-turns.ensures.all counted) _ _ _ _ _ tt c.in-Ok-put_summary.ensures
 
 pub returns-in-Ok : goal.returns-in-Ok
 returns-in-Ok g c =
@@ -24,9 +33,4 @@ returns-in-Ok g c =
     let turns = c.args.schedule.all in
     let counted : counts c.count-counts.result ≡ word_counts (code prepared.code) (memberships (opening prepared.nested)) turns =
     c.count-counts.ensures.counts ∙ ap (λ (m : Seen). word_counts m.code m.groups turns) c.in-Ok.ensures in
-    let text = summary_of n (length turns) (word_counts (code prepared.code) (memberships (opening prepared.nested)) turns) in
-    text_ends (λ judgement. judgement ≡ Writes text) _ c.status_after.result _
-    (g.S.Sink.written c.args.out.now) (g.S.Sink.written c.put_summary.new.out) (g.S.Sink.faults c.args.out.now)
-    (g.S.Sink.faults c.put_summary.new.out)
-    c.put_summary.ensures c.status_after.ensures
-    (ap₂ (λ (k : ℕ) (m : Counted). Writes (summary_of n k m)) c.turns-turns.ensures.all counted)
+    put_stopped _ _ (ap₂ (summary_of n) c.turns-turns.ensures.all counted) _ _ _ _ _ c.in-Err-put_summary.ensures

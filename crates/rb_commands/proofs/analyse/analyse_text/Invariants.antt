@@ -1,4 +1,0 @@
-use Rattle.rb_commands.proofs.analyse.analyse_text.Given as goal
-
-abbrev pub ghosts-tell_outcome : goal.ghosts-tell_outcome
-ghosts-tell_outcome g a = record { name = a.blank.name; parts = a.blank.parts }

@@ -1,5 +1,0 @@
-use Rattle.rb_commands.proofs.ErasedAccepted.{survivors_end_alike}
-use Rattle.rb_commands.proofs.laws.survivors_end_alike.Goals as goal
-
-pub returns : goal.returns
-returns c = survivors_end_alike

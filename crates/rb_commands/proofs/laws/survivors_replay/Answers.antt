@@ -1,5 +1,0 @@
-use Rattle.rb_commands.proofs.SurvivorsReplay.{survivors_replay}
-use Rattle.rb_commands.proofs.laws.survivors_replay.Goals as goal
-
-pub returns : goal.returns
-returns c = survivors_replay

@@ -1,0 +1,5 @@
+use Rattle.std.proofs.Common.{arith, refl}
+use Rattle.rb_commands.proofs.saying.SayingCommand.begin.Goals as goal
+
+pub returns : goal.returns
+returns c = (refl, λ more. absurd (omega (arith, more)))

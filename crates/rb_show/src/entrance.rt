@@ -1,0 +1,102 @@
+//! The call that `main` makes: from words, a shelf and two sinks to an exit status, as `hall` of `rb_tell` does.
+ghost use Rattle.std.specs.Prelude.{◌≡◌, codes, option_map};
+ghost use Rattle.rb_hall.specs.Ends.{wanted_of};
+ghost use Rattle.rb_hall.specs.Answers.{scene_of};
+ghost use Rattle.rb_hall.specs.Ending.{IsUnwritten};
+ghost use Rattle.rb_outside.specs.Outside.{went_well};
+ghost use Rattle.rb_tell.specs.Entrance.{file_of, number_of as exit_status};
+ghost use Rattle.rb_show.specs.Entrance.{ViewEnds, WishedEnds};
+ghost use Rattle.rb_show.specs.Wished.{asked};
+ghost use Rattle.rb_show.specs.Words.{wish_of};
+
+use crate::asking::requested;
+use crate::request::{Wish, command};
+use rb_commands::{Why, Words};
+use rb_hall::{Outcome, Wanted};
+use rb_outside::{Shelf, Sink};
+use rb_tell::{Blamed, End, Left, tell};
+use std::alloc::Global;
+
+/// The exit status where memory is wanting.
+const NO_MEMORY: u8 = 5;
+
+/// Carries out what the words ask for over a shelf and a sink, tells on the other sink why a text was refused, from the bytes that were read of
+/// it, which file could not be read, or that nothing could be written; and gives the exit status: 0 where the text was written, 1 where a text is
+/// refused, 2 where the words ask for nothing, 3 where a file can't be read, 4 where the text can't be written, 5 where memory is wanting.
+/// Nothing may have been written to the first sink before.
+pub fn hall<F: Shelf + Blamed, S: Sink + Blamed + Drop, E: Sink>(
+    alloc: Global,
+    words: &Words,
+    shelf: &mut F,
+    out: S,
+    err: &mut E,
+) -> Left<S>
+    requires { IsUnwritten (S.written out) }
+    ensures files { F.files shelf.new ≡ F.files shelf.old }
+    ensures ends { WishedEnds (wish_of words.now)
+        (scene_of F.files F.starts F.faults S.written (λ sink. went_well (S.faults sink)) shelf.old out)
+        (scene_of F.files F.starts F.faults S.written S.faults shelf.new result.sink)
+        (E.written err.old) (E.written err.new) (E.faults err.old) (E.faults err.new) result.number }
+{
+    let Ok(wish) = requested(alloc, words) else {
+        return Left {
+            sink: out,
+            number: NO_MEMORY,
+        };
+    };
+    carried(alloc, wish, shelf, out, err)
+}
+
+// Carries out a request, and tells how it ended.
+fn carried<F: Shelf + Blamed, S: Sink + Blamed + Drop, E: Sink>(
+    alloc: Global,
+    wish: Wish<'_>,
+    shelf: &mut F,
+    out: S,
+    err: &mut E,
+) -> Left<S>
+    requires { IsUnwritten (S.written out) }
+    ensures files { F.files shelf.new ≡ F.files shelf.old }
+    ensures ends { ViewEnds (asked wish.entry)
+        (scene_of F.files F.starts F.faults S.written (λ sink. went_well (S.faults sink)) shelf.old out)
+        (scene_of F.files F.starts F.faults S.written S.faults shelf.new result.sink)
+        (E.written err.old) (E.written err.new) (E.faults err.old) (E.faults err.new) result.number }
+{
+    let mut slots = [Vec::new(alloc), Vec::new(alloc), Vec::new(alloc)];
+    let carried = command(alloc, wish, &mut slots, shelf, out);
+    let said = End {
+        unread: shelf.reason(),
+        unwritten: carried.sink.reason(),
+    };
+    let file = file_in(&wish, &carried.outcome);
+    tell(alloc, "rblview", file, &carried.outcome, said, err);
+    Left {
+        number: number_of(&wish, &carried.outcome),
+        sink: carried.sink,
+    }
+}
+
+// The file that an end is about.
+fn file_in<'r>(wish: &'r Wish<'_>, outcome: &Outcome<'_, Why>) -> Option<Wanted<'r>>
+    ensures { option_map wanted_of result ≡ file_of (asked wish.now) outcome.now }
+{
+    match outcome {
+        Outcome::Refused(refusal) => wish.file(refusal.number),
+        Outcome::ReadFault(number) => wish.file(*number),
+        Outcome::Done | Outcome::WriteFault | Outcome::Memory => None,
+    }
+}
+
+// The exit status of an end.
+fn number_of(wish: &Wish<'_>, outcome: &Outcome<'_, Why>) -> u8
+    ensures { result ≡ exit_status (asked wish.now).command outcome.now }
+{
+    match outcome {
+        Outcome::Done if matches!(wish, Wish::Usage(_)) => 2,
+        Outcome::Done => 0,
+        Outcome::Refused(_) => 1,
+        Outcome::ReadFault(_) => 3,
+        Outcome::WriteFault => 4,
+        Outcome::Memory => NO_MEMORY,
+    }
+}

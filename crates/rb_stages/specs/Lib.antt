@@ -1,9 +1,0 @@
-pub mod Words
-pub mod Judgement
-pub mod Answers
-pub mod Read
-pub mod Stages
-pub mod Products
-pub mod Complete
-pub mod Compiled
-pub mod Ending

@@ -1,0 +1,18 @@
+use Rattle.std.proofs.Common.{◌∙◌, ℕ, List, ◌++◌, codes, ap}
+use Rattle.rb_tell.proofs.Joined.{joined_four}
+use Rattle.rb_tell.proofs.end.unread.Goals as goal
+
+pub returns : goal.returns
+returns c =
+    let said = c.in_ok-add_said.ensures in
+    let t0 = c.new-told.result.items in
+    let t1 = c.extend_from_slice.new.self.items in
+    let t2 = c.extend_from_slice-2.new.self.items in
+    let t3 = c.extend_from_slice-3.new.self.items in (
+      said.0,
+      joined_four t0 t1 t2 t3 c.add_said.new.told.items c.args.program.now (codes ": cannot read ") c.args.name.now (said.0 ++ codes "\n")
+          c.new-told.ensures.items
+          (c.in_ok-extend_from_slice.ensures.items ∙ ap (λ (x : List ℕ). t0 ++ x) c.as_bytes.ensures.value)
+          c.in_ok-extend_from_slice-2.ensures.items
+          (c.in_ok-extend_from_slice-3.ensures.items ∙ ap (λ (x : List ℕ). t2 ++ x) c.as_bytes-2.ensures.value) said.1,
+    )

@@ -1,0 +1,14 @@
+pub mod Wrote
+pub mod BothTexts
+pub mod Once
+pub mod InRanges
+pub mod AllJudged
+pub mod KeptTurns
+pub mod RecordsReadBack
+pub mod SurvivorsKept
+pub mod SurvivorsReplay
+pub mod ErasedAccepted
+pub mod Nests
+pub mod ImagesRun
+pub mod Lasting
+pub mod ItsFiles
