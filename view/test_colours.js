@@ -3,6 +3,7 @@
    mean different things. Contrast is that of WCAG 2; what is seen with red-, green- or blue-blindness is computed after Machado and others. */
 "use strict";
 const fs = require("fs"), path = require("path");
+const cases = require("./cases.js");
 const PALETTES = new Function(fs.readFileSync(path.join(__dirname, "parts/palette.js"), "utf8") + "; return PALETTES;")();
 
 const BLINDNESS = {
@@ -32,13 +33,7 @@ function seen(colour, blindness) {
 }
 const distance = (a, b, blindness) => { const [one, other] = [seen(a, blindness), seen(b, blindness)]; return Math.hypot(...one.map((value, k) => value - other[k])); };
 
-let faults = 0, compared = 0;
-function atLeast(what, value, least) {
-  compared++;
-  if (value >= least) return;
-  faults++;
-  console.log(`${what}: ${value.toFixed(1)}, and not ${least}`);
-}
+const atLeast = (what, value, least) => cases.told(what, value >= least ? "" : `${value.toFixed(1)}, and not ${least}`);
 
 for (const [theme, palette] of Object.entries(PALETTES)) {
   for (const paper of PAPER) {
@@ -50,5 +45,4 @@ for (const [theme, palette] of Object.entries(PALETTES)) {
     for (const blindness of Object.keys(BLINDNESS)) atLeast(`${theme}: ${one} and ${other}, blindness ${blindness}`, distance(palette[one], palette[other], blindness), least);
   }
 }
-console.log(`colours: ${compared} compared, ${faults} too alike`);
-process.exit(faults ? 1 : 0);
+cases.end();

@@ -5,7 +5,7 @@ a change of one value of a sound image.
 """
 import re
 
-from image_bytes import assemble
+from .image_bytes import assemble
 
 # Processes of four words, a channel from p to q and one back, and labels: `q` is where q begins, `s` where a third process does, `fNAME` a
 # procedure of p, and for block N `rN` its restart, `tN` its test, `aN..` its alternates.

@@ -1,7 +1,7 @@
 """Images whose lists are not those of sound code, one for each clause, and odd images that are sound."""
 import copy
 
-from unsound_images import build, variable
+from .unsound_images import build, variable
 
 ENTERED = "{1}turn; enter {0}; r{0}: turn; start {0}; a{0}: {2}t{0}: turn; push 1; test {0}; "
 

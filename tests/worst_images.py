@@ -1,10 +1,10 @@
 """The worst images that 16 MiB can hold, and their makers. Each has its status: 0 sound, 1 not, 5 where the budget of the search ends."""
 import struct
 
-from image_bytes import instr, number, numbers, write
-from unsound_images import build
+from .image_bytes import instr, number, numbers, write
+from .shared import MOST_OF_IMAGE
+from .unsound_images import build
 
-MOST = 16_777_216
 MOST_INSTRUCTIONS = 8_388_608
 
 
@@ -186,7 +186,7 @@ def bomb():
 
 def worst():
     """Each image: its name, its maker, and its status."""
-    yield "16 MiB of `turn`", lambda: straight(MOST - 700, "turn"), 5
+    yield "16 MiB of `turn`", lambda: straight(MOST_OF_IMAGE - 700, "turn"), 5
     yield "8,388,608 of `turn`", lambda: straight(MOST_INSTRUCTIONS, "turn"), 0
     yield "8,388,608 of `fail`", lambda: straight(MOST_INSTRUCTIONS, "fail"), 0
     yield "8,388,608 of `add`, without operands", lambda: straight(MOST_INSTRUCTIONS, "add"), 1

@@ -1,26 +1,24 @@
 #!/usr/bin/env node
 /* Tests the model of the page against `rbl run` and `rbl survive`.
 
-     node view/test.js [PROGRAMS]
+     node view/test_model.js [FIRST LAST]
 
-   For every example, and for so many random programs, a trace is read, and at its turns the model is asked what `rbl` would have written had
-   the schedule ended there: lines, states, open blocks, variables, channels and survivors. RBL and RBLVIEW may name the two programs. */
+   For every example, or for the random programs of these numbers, a trace is read, and at its turns the model is asked what `rbl` would have
+   written had the schedule ended there: lines, states, open blocks, variables, channels and survivors. RBL and RBLVIEW name the two programs. */
 "use strict";
 const child = require("child_process"), fs = require("fs"), os = require("os"), path = require("path");
-const Model = require("./model.js"), Source = require("./parts/source.js"), { program } = require("./programs.js");
+const Model = require("./model.js"), Source = require("./parts/source.js"), { program } = require("./programs.js"), cases = require("./cases.js");
 
 const ROOT = path.dirname(__dirname), EXAMPLES = path.join(ROOT, "examples");
-const RBL = process.env.RBL || path.join(ROOT, "crates/rbl/out/rbl");
-const RBLVIEW = process.env.RBLVIEW || path.join(ROOT, "crates/rblview/out/rblview");
+const RBL = process.env.RBL || path.join(ROOT, "rbl");
+const RBLVIEW = process.env.RBLVIEW || path.join(ROOT, "rblview");
 const folder = fs.mkdtempSync(path.join(os.tmpdir(), "view-test-"));
 const SOURCE = path.join(folder, "source"), SCHEDULE = path.join(folder, "schedule");
 const counted = { programs: 0, turns: 0, prefixes: 0, statements: 0, undone: 0, returns: 0, messages: 0, "taken back": 0, sessions: 0, held: 0 };
-let faults = 0;
+let differences = [];
 
 function same(what, page, oracle) {
-  if (page === oracle) return;
-  faults++;
-  if (faults <= 10) console.log(`DIFFERS ${what}\n  page   ${JSON.stringify(page).slice(0, 400)}\n  oracle ${JSON.stringify(oracle).slice(0, 400)}`);
+  if (page !== oracle) differences.push(`${what}: page ${JSON.stringify(page).slice(0, 400)}, oracle ${JSON.stringify(oracle).slice(0, 400)}`);
 }
 const sure = (what, holds) => same(what, Boolean(holds), true);
 const written = (program, ...words) => child.spawnSync(program, words, { maxBuffer: 1 << 30 }).stdout.toString("latin1");
@@ -101,7 +99,14 @@ function testPlaces(what, run, source) {
   }
 }
 
+// One program is one case, however much of it is compared.
 function testProgram(what, source, schedule, every) {
+  differences = [];
+  testRun(what, source, schedule, every);
+  cases.told(what, differences.slice(0, 3).join("; "));
+}
+
+function testRun(what, source, schedule, every) {
   fs.writeFileSync(SOURCE, source, "latin1");
   fs.writeFileSync(SCHEDULE, schedule, "latin1");
   const trace = written(RBLVIEW, "trace", SOURCE, SCHEDULE), all = written(RBL, "run", SOURCE, SCHEDULE);
@@ -128,22 +133,19 @@ function count(run) {
   counted.held += run.held.length;
 }
 
-function main() {
-  for (const name of fs.readdirSync(EXAMPLES).filter(n => n.endsWith(".rbl")).map(n => n.slice(0, -4))) {
+function main([first, last]) {
+  const examples = first ? [] : fs.readdirSync(EXAMPLES).filter(n => n.endsWith(".rbl")).map(n => n.slice(0, -4));
+  for (const name of examples) {
     const read = ending => fs.readFileSync(path.join(EXAMPLES, name + ending), "latin1");
     testProgram(name, read(".rbl"), read(".schedule"), 1);
   }
-  for (let seed = 1; seed <= +(process.argv[2] || 100); seed++) {
+  for (let seed = +first; seed <= +last; seed++) {
     const { source, turns } = program(seed);
     testProgram(`program ${seed}`, source, text(turns.map(name => `${name} 1`)), 23);
   }
   fs.rmSync(folder, { recursive: true });
-  console.log(Object.entries(counted).map(([what, n]) => `${what} ${n}`).join(", ") + (faults ? `: ${faults} differences` : ": no difference"));
-  process.exit(faults ? 1 : 0);
+  console.log(Object.entries(counted).map(([what, n]) => `${what} ${n}`).join(", "));
+  cases.end();
 }
 
-for (const needed of [RBL, RBLVIEW]) {
-  if (!fs.existsSync(needed)) { console.log(`view: ${needed} is not built, so the model is not tested`); process.exit(0); }
-}
-if (!written(RBLVIEW).includes(" trace ")) { console.log(`view: ${RBLVIEW} has no command trace, so the model is not tested`); process.exit(0); }
-main();
+main(process.argv.slice(2));

@@ -1,15 +1,17 @@
 """Runs at the limits of the language: each limit that a text can reach, at its number and one past it, the largest texts, words that
 give no command, and a program that is cut short.
 
-Like the rows of bench/runs these are data, and not tests that are proved: `stored_runs.py` runs them.
+Like the rows of tests/runs these are data: `test_stored_runs.py` runs them.
 """
 from collections import namedtuple
 
-# What a run is of, its words, its files by their names, its status (None: whichever), and what it writes: the whole text, or parts of it.
-Run = namedtuple("Run", "title words files status written")
+from .shared import MOST, MOST_OF_IMAGE
+
+# What a run is of, its words, its files by their names, its status (None: whichever), what it writes (the whole text, or parts of it), and
+# by which program.
+Run = namedtuple("Run", "title words files status written program", defaults=["rbl"])
 # How a text begins, what stands somewhere in it, and how it ends.
 Parts = namedtuple("Parts", "begins has ends", defaults=["", "", ""])
-MOST = 1_048_576
 EMPTY = "program a; process p { } end."
 RUN_WORDS = ["run", "a", "b"]
 BLOCK = "ensure 1 within 9999 by { if n > 0 { call f(n - 1); } } else error;"
@@ -193,19 +195,21 @@ def listings():
         yield Run(f"the code of {len(source):,} bytes", ["code", "a"], {"a": source}, 0, Parts(ends=ends))
 
 
+USAGE = (
+    "usage: rbl run SOURCE SCHEDULE | survive SOURCE SCHEDULE | plain SOURCE RECORD | check SOURCE | code SOURCE | trial NUMBER"
+    " | compile SOURCE | load IMAGE SCHEDULE | session SOURCE SCHEDULE SESSION | domino HISTORY | stuck SOURCE SCHEDULE\n"
+)
+
+
 def no_commands():
     """Words that give no command."""
-    wanted = (
-        "usage: rbl run SOURCE SCHEDULE | survive SOURCE SCHEDULE | plain SOURCE RECORD | check SOURCE | code SOURCE | trial NUMBER"
-        " | session SOURCE SCHEDULE SESSION | domino HISTORY | stuck SOURCE SCHEDULE | compile SOURCE | load IMAGE SCHEDULE\n"
-    )
     fewer = [[], ["check"], ["run", "a"], ["survive", "a"], ["trial"], ["session", "a", "b"], ["domino"], ["stuck", "a"], ["compile"], ["load", "a"]]
     more = [["check", "a", "a"], ["run", "a", "a", "a"], ["plain", "a", "a", "a"], ["trial", "0", "0"], ["session", "a", "b", "c", "d"]]
     options = [["check", "-a"], ["check", "--help"], ["check", "--", "a"], ["run", "-h", "a"], ["--help"], ["--version"]]
     no_words = [["check", ""], ["run", "a", ""], ["", "a"], ["help"], ["help", "check"], ["chec", "a"], ["Check", "a"]]
     no_numbers = [["trial", "x"], ["trial", "18446744073709551616"], ["trial", "000000000000000000000"]]
     for words in [*fewer, *more, *options, *no_words, *no_numbers]:
-        yield Run(f"usage: {' '.join(words)}", words, {"a": EMPTY}, 2, wanted)
+        yield Run(f"usage: {' '.join(words)}", words, {"a": EMPTY}, 2, USAGE)
 
 
 # A program, and the first and the last length at which a front of it is refused so. Every other front ends too early, behind its last byte.
@@ -278,11 +282,16 @@ def deepest():
 def longest_pages():
     """A page of the most bytes, and one with a byte more, which is refused."""
     files = {"a": "c" * MOST, "b": EMPTY, "c": "p 1"}
-    yield Run("views.rows: a page of the most bytes", ["page", "a", "b", "c"], files, 0, Parts(begins="c" * MOST))
-    yield Run("views.rows: a page of a byte more", ["page", "a", "b", "c"], {**files, "a": "c" * (MOST + 1)}, 1, "refused L0\n")
+    yield Run("a page of the most bytes", ["page", "a", "b", "c"], files, 0, Parts(begins="c" * MOST), "rblview")
+    yield Run("a page of a byte more", ["page", "a", "b", "c"], {**files, "a": "c" * (MOST + 1)}, 1, "refused L0\n", "rblview")
 
 
-def made_runs():
-    """All of them."""
-    for runs in (limits, largest, longest_files, longest_pages, conversations, listings, no_commands, cuts, trials, deepest):
-        yield from runs()
+def longest_images():
+    """Bytes that are no image, as many as an image may have, and one more, which are not looked at; whether there is a schedule or not."""
+    for schedule, files in (("a schedule", {"b": ""}), ("no schedule", {})):
+        for length, fault in ((MOST_OF_IMAGE, "I1"), (MOST_OF_IMAGE + 1, "L0")):
+            yield Run(f"{length:,} zeros as an image, and {schedule}", ["load", "a", "b"], {"a": bytes(length), **files}, 1, f"refused {fault}\n")
+
+
+# All kinds of them.
+KINDS = (limits, largest, longest_files, longest_pages, longest_images, conversations, listings, no_commands, cuts, trials, deepest)

@@ -1,20 +1,5 @@
-#!/usr/bin/env python3
-"""Runs the proved program on the worst inputs that its limits let through, and tells what each takes.
-
-Each command has to end within 10 seconds of processor time and 200 MB of memory (edition 2: 400 MB), with the status that is named here.
-Status 1 only where the program stands built and one of them does not. RBL may name another program.
-"""
-import os
-import resource
-import subprocess
-import sys
-import tempfile
-
-ROOT = os.path.dirname(os.path.dirname(os.path.abspath(__file__)))
-PROGRAM = os.environ.get("RBL", os.path.join(ROOT, "crates/rbl/out/rbl"))
-MOST = 1_048_576
-SECONDS = 10
-MEGABYTES = {1: 200, 2: 400}
+"""The worst texts that the limits let through: sources, schedules, sessions and histories of a mebibyte, and runs of a million turns."""
+from .shared import MOST
 
 
 def fill(before, piece, after, most=MOST):
@@ -105,20 +90,6 @@ def histories():
     yield "one name again and again", 1, fill("process p\n", "process p\n", "")
 
 
-def limited():
-    """The limits of a command, a little above those that are asked for: what goes beyond is told."""
-    resource.setrlimit(resource.RLIMIT_CPU, (2 * SECONDS, 2 * SECONDS))
-
-
-def measured(words, folder):
-    """The status of a command, its processor seconds and its peak memory in MB."""
-    with open(os.devnull, "wb") as none:
-        child = subprocess.Popen([PROGRAM, *words], cwd=folder, stdout=none, stderr=none, preexec_fn=limited)
-        _, state, usage = os.wait4(child.pid, 0)
-    status = os.waitstatus_to_exitcode(state)
-    return status, usage.ru_utime + usage.ru_stime, usage.ru_maxrss / 1024
-
-
 def cases():
     """Each case: its name, its words, its texts, its edition and its status."""
     for name, edition, status, text in sources():
@@ -131,32 +102,3 @@ def cases():
     for name, status, text in histories():
         yield f"domino: {name}", ["domino", "a"], {"a": text}, 1, status
     yield "trial: the largest number", ["trial", "18446744073709551615"], {}, 1, 0
-
-
-def main():
-    if not os.path.exists(PROGRAM):
-        print(f"hostile: not run, for want of {PROGRAM}")
-        return 0
-    wrong = []
-    slowest = (0.0, "")
-    largest = (0.0, "")
-    with tempfile.TemporaryDirectory() as folder:
-        for name, words, texts, edition, status in cases():
-            for file, text in texts.items():
-                with open(os.path.join(folder, file), "w", encoding="ascii") as out:
-                    out.write(text)
-            ended, seconds, megabytes = measured(words, folder)
-            if "-v" in sys.argv:
-                print(f"{name}: status {ended}, {seconds:.2f} s, {megabytes:.0f} MB")
-            slowest = max(slowest, (seconds, name))
-            largest = max(largest, (megabytes, name))
-            if ended != status or seconds > SECONDS or megabytes > MEGABYTES[edition]:
-                wrong.append(f"{name}: status {ended} for {status}, {seconds:.2f} s, {megabytes:.0f} MB")
-    print(f"hostile: the slowest took {slowest[0]:.2f} s ({slowest[1]}), the largest {largest[0]:.0f} MB ({largest[1]}); {len(wrong)} wrong")
-    for line in wrong:
-        print(line)
-    return 1 if wrong else 0
-
-
-if __name__ == "__main__":
-    sys.exit(main())

@@ -1,0 +1,135 @@
+"""The exit statuses of both programs, and what they tell on standard error: which file is missing, or is refused.
+
+Each command is tried with each of its files in turn: without that file, with a folder in its place, and with one that is refused.
+"""
+import os
+import unittest
+
+from .commands import FILES, commands
+from .limit_runs import USAGE
+from .shared import MOST, VIEWS, Cases, answer, answer_over, c_compiler, folder_of, hook, hooked, program
+
+# A file of each kind that is refused, and the fault with its place.
+REFUSED = {
+    "source": ("program a;\nprocess p { x := 1; }\nend.\n", "S1", "2:13"),
+    "schedule": ("p 1\nq 1\n", "T2", "2"),
+    "record": ("2 p\n1 p\n", "V3", "2"),
+    "session": ("step 1\nshow q\n", "B2", "2"),
+    "history": ("process p\nfail q\n", "H2", "2"),
+    "page": ("c" * (MOST + 1), "L0", ""),
+    "image": ("no image", "I1", ""),
+}
+USAGES = {"rbl": USAGE, "rblview": "usage: rblview explain NAME | trace SOURCE SCHEDULE | page PAGE SOURCE SCHEDULE\n"}
+# Words that are no command of a program.
+UNKNOWN = {
+    "rbl": ["", "rum source schedule", "run source", "run source schedule schedule", "trace source schedule", "page page source schedule", "explain S1", "--help"],
+    "rblview": ["", "rum source schedule", "trace source", "trace source schedule schedule", "page page source", "explain", "explain Z9", "run source schedule", "--help"],
+}
+# Words of which one is no text.
+NO_TEXTS = {"rbl": [[b"\xff"], ["check", b"\xff"], [b"run\xc3", "source", "schedule"], ["session", "source", "schedule", b"a\xed\xa0\x80"]],
+            "rblview": [[b"\xff"], ["trace", "source", b"\xff"], ["page", b"\x80page", "source", "schedule"], ["explain", b"S1\xc3"]]}
+
+
+def each_file():
+    """Each command with each of its files: the words, the files, and the file."""
+    for line, words, files in commands():
+        for name in files:
+            yield f"{line}: {name}", words, files, name
+
+
+def unfinished(words, files):
+    """What is wrong where a command has all of its files."""
+    real = answer_over(words, files)
+    return differs(real, 0, real.out, b"") or (None if real.out else "writes nothing")
+
+
+def program_name(words):
+    """The name by which the program of these words tells of itself."""
+    return "rblview" if words[0] in VIEWS else "rbl"
+
+
+def differs(real, status, out, err):
+    """What is wrong with an answer, or nothing: its status, all that it writes, and how it begins on standard error (nothing: it is empty)."""
+    is_right = real[:2] == (status, out) and real.err.startswith(err) and bool(real.err) == bool(err)
+    return None if is_right else f"status {real.status} for {status}, {real.out[:60]!r}, {real.err[:100]!r}"
+
+
+def unreadable(words, files, name, is_folder):
+    """What is wrong where a file is missing, or a folder stands in its place."""
+    with folder_of({each: text for each, text in files.items() if each != name}) as folder:
+        if is_folder:
+            os.mkdir(os.path.join(folder, name))
+        return differs(answer(words, folder), 3, b"", f"{program_name(words)}: cannot read {name}: ".encode())
+
+
+def refused(words, files, name):
+    """What is wrong where a file is refused: the line, or the reason, which is to be that of this file."""
+    text, fault, place = REFUSED[name]
+    line = f"refused {fault}" + (f" at {place}" if place else "")
+    real = answer_over(words, {**files, name: text})
+    told = f": {fault}: ".encode() in real.err.split(b"\n")[0]
+    return differs(real, 1, f"{line}\n".encode(), f"{name}:{place}{':' if place else ' '}".encode()) or (None if told else f"tells {real.err!r}")
+
+
+def both_refused(words, files, name):
+    """The same where every later file is refused too."""
+    later = list(files)[list(files).index(name) + 1:]
+    return refused(words, {**files, **{each: REFUSED[each][0] for each in later}}, name)
+
+
+def unwritable(words, files):
+    """What is wrong where nothing can be written."""
+    with folder_of(files) as folder, open("/dev/full", "wb") as full:
+        real = answer(words, folder, out=full)
+    return differs(real, 4, b"", f"{program_name(words)}: cannot write to standard output: ".encode())
+
+
+def without_memory(words, files):
+    """What is wrong where the first piece of memory is refused."""
+    with folder_of(files) as folder:
+        return differs(answer(words, folder, environment=hooked(refuse="memory", refused=0)), 5, b"", b"")
+
+
+def misunderstood(name, words):
+    """What is wrong with the answer of a program to words that are no command of its own, whatever there may be of files."""
+    with folder_of(FILES) as folder:
+        return differs(answer(words, folder, program(name)), 2, USAGES[name].encode(), b"")
+
+
+def misread(name, words):
+    """What is wrong with the answer of a program to words of which one is no text: nothing is read, written or told."""
+    with folder_of(FILES) as folder:
+        return differs(answer(words, folder, program(name)), 6, b"", b"")
+
+
+class Statuses(Cases):
+    def test_done(self):
+        """Each command answers its files with 0, and tells nothing."""
+        self.each(commands(), unfinished)
+
+    def test_missing(self):
+        self.each([(name, *case, False) for name, *case in each_file()], unreadable)
+
+    def test_folder(self):
+        self.each([(name, *case, True) for name, *case in each_file()], unreadable)
+
+    def test_refused(self):
+        self.each(each_file(), refused)
+        self.each(each_file(), both_refused)
+
+    @unittest.skipUnless(os.path.exists("/dev/full"), "no /dev/full here")
+    def test_unwritable(self):
+        self.each(commands(), unwritable)
+
+    @unittest.skipUnless(c_compiler(), "no C compiler here")
+    def test_memory(self):
+        hook()
+        self.each(commands(), without_memory)
+
+    def test_unknown(self):
+        for name, lines in UNKNOWN.items():
+            self.each([(f"{name} {line}", name, line.split()) for line in lines], misunderstood)
+
+    def test_no_texts(self):
+        for name, lines in NO_TEXTS.items():
+            self.each([(f"{name} {words}", name, words) for words in lines], misread)
