@@ -36,7 +36,7 @@ fn gives_each(alloc: Global) -> bool {
     gives(alloc, "a", 9, 9, b"0410")
         && gives(alloc, "a", 2, 1, b"01x1")
         && gives(alloc, "a", 0, 1, b"xxxx")
-        && gives(alloc, "empty", 1, 1, b"0x00")
+        && gives(alloc, "empty", 1, 1, b"0x0")
         && gives(alloc, "other", 9, 9, b"xxxx")
 }
 
