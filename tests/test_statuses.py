@@ -7,7 +7,7 @@ import unittest
 
 from .commands import FILES, commands
 from .limit_runs import USAGE
-from .shared import MOST, VIEWS, Cases, answer, answer_over, c_compiler, folder_of, hook, hooked, program
+from .shared import MOST, MOST_OF_IMAGE, VIEWS, Cases, answer, answer_over, c_compiler, folder_of, hook, hooked, program
 
 # A file of each kind that is refused, and the fault with its place.
 REFUSED = {
@@ -62,13 +62,22 @@ def unreadable(words, files, name, is_folder):
         return differs(answer(words, folder), 3, b"", f"{program_name(words)}: cannot read {name}: ".encode())
 
 
-def refused(words, files, name):
-    """What is wrong where a file is refused: the line, or the reason, which is to be that of this file."""
-    text, fault, place = REFUSED[name]
+def refused_for(words, files, name, text, fault, place):
+    """What is wrong where a file has this text, and is refused: the line, or the reason, which is to be that of this file."""
     line = f"refused {fault}" + (f" at {place}" if place else "")
     real = answer_over(words, {**files, name: text})
     told = f": {fault}: ".encode() in real.err.split(b"\n")[0]
     return differs(real, 1, f"{line}\n".encode(), f"{name}:{place}{':' if place else ' '}".encode()) or (None if told else f"tells {real.err!r}")
+
+
+def refused(words, files, name):
+    """The same of the text of its kind."""
+    return refused_for(words, files, name, *REFUSED[name])
+
+
+def too_long(words, files, name):
+    """The same where it has a byte more than it may have."""
+    return refused_for(words, files, name, "#" * ((MOST_OF_IMAGE if name == "image" else MOST) + 1), "L0", "")
 
 
 def both_refused(words, files, name):
@@ -116,6 +125,9 @@ class Statuses(Cases):
     def test_refused(self):
         self.each(each_file(), refused)
         self.each(each_file(), both_refused)
+
+    def test_too_long(self):
+        self.each(each_file(), too_long)
 
     @unittest.skipUnless(os.path.exists("/dev/full"), "no /dev/full here")
     def test_unwritable(self):
