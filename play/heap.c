@@ -1,11 +1,13 @@
 // The heap of the engine's module, in place of the C library's. Its blocks are of some hundred sizes and are never split or joined: one that is
-// given back waits in the list of its size until one of that size is taken. Nothing proves it; tests/test_heap.py tries it.
+// given back waits in the list of its size until one of that size is taken. Once all were given back, as after each call of the page, the heap
+// begins anew. Nothing proves it; tests/test_heap.py tries it.
 #include "heap.h"
 
 enum { HEAD = 16, SIZES = 108 }; // before each block stands the number of its size
 static const u64 LARGEST = 1ul << 32, STEP = 1ul << 20;
 static void *waiting[SIZES];
 static u64 top, end; // between them lies what was never given out
+static u64 out;      // how many blocks are
 
 // The sizes are 16, 32, 48 and 64 bytes, and then four on the way to each next double.
 static unsigned number_of(u64 size) {
@@ -35,12 +37,14 @@ void *take(u64 size) {
     void *block = waiting[number];
     if (block) {
         waiting[number] = *(void **)block;
-        return block;
+    } else {
+        u8 *bytes = first_bytes(HEAD + size_of(number));
+        if (!bytes) return 0;
+        *(u64 *)bytes = number;
+        block = bytes + HEAD;
     }
-    u8 *bytes = first_bytes(HEAD + size_of(number));
-    if (!bytes) return 0;
-    *(u64 *)bytes = number;
-    return bytes + HEAD;
+    out++;
+    return block;
 }
 
 static unsigned number_at(void *block) { return (unsigned)*(u64 *)((u8 *)block - HEAD); }
@@ -49,6 +53,9 @@ void give(void *block) {
     unsigned number = number_at(block);
     *(void **)block = waiting[number];
     waiting[number] = block;
+    if (--out > 0) return;
+    top = 0;
+    for (number = 0; number < SIZES; number++) waiting[number] = 0;
 }
 
 // What the compiled engine calls: whether there was memory, and the block. Alignments divide 16. Where there was none the place is any but 0.

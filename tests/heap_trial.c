@@ -1,7 +1,7 @@
 /* Tries the heap of the engine's module, and its numbers of 128 bits, compiled for this machine: heap_trial SEED STEPS LIMIT
  *
- * Takes, resizes and gives back blocks as it happens, of which each is filled with bytes of its own that are looked at again; the memory reaches
- * LIMIT bytes and no further. It tells how often memory was wanting, and ends with 1 where anything is wrong. */
+ * Takes, resizes and gives back blocks as it happens, of which each is filled with bytes of its own that are looked at again, and gives all back now
+ * and then; the memory reaches LIMIT bytes and no further. It tells how often memory was wanting, and ends with 1 where anything is wrong. */
 #include <stdio.h>
 #include <stdlib.h>
 #include <string.h>
@@ -100,6 +100,19 @@ static void try_wide(void) {
     demand(wide_right(a, by) == a >> by, "a shift to the right is wrong");
 }
 
+/* Gives all blocks back: the next one is again the first. */
+static void give_all(void) {
+    for (int i = 0; i < BLOCKS; i++) {
+        if (!blocks[i].at) continue;
+        look(i, blocks[i].size);
+        rattle_dealloc(blocks[i].at);
+        blocks[i].at = 0;
+    }
+    u8 *first = take(1);
+    demand(first == (u8 *)((heap_start() + 15) / 16 * 16 + 16), "the heap does not begin anew");
+    give(first);
+}
+
 int main(int count, char **words) {
     demand(count == 4, "heap_trial SEED STEPS LIMIT");
     state = strtoul(words[1], 0, 10) * 2 + 1, limit = strtoul(words[3], 0, 10);
@@ -111,8 +124,8 @@ int main(int count, char **words) {
     for (u64 steps = strtoul(words[2], 0, 10); steps > 0; steps--) {
         wanting += !step((int)(any() % BLOCKS));
         try_wide();
+        if (steps % 1000 == 1) give_all();
     }
-    for (int i = 0; i < BLOCKS; i++) if (blocks[i].at) look(i, blocks[i].size);
     printf("%lu\n", wanting);
     ASAN_UNPOISON_MEMORY_REGION(memory, limit);
     free(memory);
