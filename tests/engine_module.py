@@ -49,8 +49,8 @@ def said(script, questions):
         return subprocess.run(words, stdin=subprocess.DEVNULL, stdout=subprocess.PIPE, text=True, timeout=4 * PATIENCE, check=False).stdout.splitlines()
 
 
-def asked(cases, folder):
-    """What the module answers to cases, each a name, a program, words, and files by their names; and the files, which are put into the folder."""
+def asked(cases, folder, **more):
+    """What the module answers to cases, each a name, a program, words, and files by their names, which are put into the folder; and more of each."""
     questions = []
     for number, (_, program, words, files) in enumerate(cases):
         texts = []
@@ -59,5 +59,5 @@ def asked(cases, folder):
                 break
             texts.append(os.path.join(folder, f"{number}.{len(texts)}"))
             write(texts[-1], files[name])
-        questions.append({"program": program, "words": words, "texts": texts})
+        questions.append({"program": program, "words": words, "texts": texts, **more})
     return [json.loads(line) for line in said("ask_module.js", questions)]

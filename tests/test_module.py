@@ -10,7 +10,7 @@ from .checking.files import below, schedules_of
 from .commands import FILES
 from .engine_module import asked, lacks, said
 from .in_node import CASE
-from .shared import ROOT, VIEWS, Cases, answer, folder_of, measured, program, read, tell, text_of
+from .shared import ROOT, VIEWS, Answer, Cases, answer, answer_over, folder_of, measured, program, read, tell, text_of
 from .test_stored_runs import TABLES, rows
 
 # A million turns in node may take so much more processor time than by the program of this machine.
@@ -86,6 +86,15 @@ class Module(Cases):
         slowest, largest = (max(range(len(every)), key=lambda at, kind=kind: answers[at].get(kind, 0)) for kind in ("took", "memory"))
         tell(f"{len(every)} answers; the slowest took {answers[slowest]['took'] / 1000:.2f} s of processor time ({every[slowest][0]}); "
              f"the memory came to {answers[largest]['memory'] / 1e6:.0f} MB")
+
+    def test_room(self):
+        """Where the output needs more room than there may be, the status is 4, and what is written is its front."""
+        whole = answer_over(["run", "source", "schedule"], FILES).out
+        for room in (0, 1, len(whole) - 1):
+            with folder_of({}) as folder:
+                [cut] = asked([("a run", "rbl", ["run", "source", "schedule"], FILES)], folder, largest=room)
+            with self.subTest(f"room for {room} of {len(whole)} bytes"):
+                self.assertIsNone(unlike(Answer(4, whole[:room], b"rbl: cannot write to standard output\n"), cut))
 
     def test_want_of_memory(self):
         """Where memory ends too soon, the status is 5, nothing is written or told, and the next call answers as a first one does."""
