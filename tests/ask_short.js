@@ -1,7 +1,8 @@
-/* Asks the engine's module where memory is wanting: ask_short.js MODULE PLACES
+/* Asks the engine's module where memory is wanting: ask_short.js MODULE QUESTIONS
 
-   PLACES is a file of JSON, a list of {name, program, words, texts}. Each is asked of modules whose memory may have so many pages and no more, from those
-   that it begins with up to as many as are enough; the answer without a limit is the right one. Each case is a line, `ok NAME` or `not ok NAME -- WHY`. */
+   QUESTIONS is a file of JSON, a list of {name, program, words, texts, mayWrite}. Each is asked of modules whose memory may have so many pages and
+   no more, from those that it begins with up to as many as are enough; the answer without a limit is the right one, and where memory is wanting some
+   may write its front. Each case is a line, `ok NAME` or `not ok NAME -- WHY`. */
 "use strict";
 const fs = require("fs");
 const Engine = require("../play/engine.js");
@@ -50,7 +51,8 @@ function wrong({ program, words, texts, mayWrite }) {
     const engine = engineOf(section, most), mayBeSmall = engineOf(section, most).ask(...SMALL);
     const answer = engine.ask(program, words, texts);
     if (same(answer, whole)) return refused > 9 && well > 0 ? null : `enough at once: ${refused}, ${well}`;
-    if (answer.status !== NO_MEMORY || !isFront(answer, whole) || answer.out.length > 0 && !mayWrite) return `status ${answer.status}, ${answer.out.length} bytes at ${most} pages`;
+    const mayBe = answer.status === NO_MEMORY && isFront(answer, whole) && (answer.out.length === 0 || mayWrite);
+    if (!mayBe) return `status ${answer.status}, ${answer.out.length} bytes at ${most} pages`;
     if (answer.reason.length > 0) return `tells ${Buffer.from(answer.reason)} at ${most} pages`;
     const next = engine.ask(...SMALL);
     if (!same(next, mayBeSmall)) return `the next call gives ${next.status} at ${most} pages, and a first one ${mayBeSmall.status}`;

@@ -104,7 +104,8 @@ class Module(Cases):
         questions += [{"name": command, "words": [command, "a"], **both, "texts": [source]} for command in ("code", "compile")]
         questions += [{"name": "trace", "words": ["trace", "a", "b"], **both, "program": "rblview"},
                       {"name": "a name that is none", "words": ["check", "a"], "texts": [FILES["source"].replace("x :=", "y :=")], "program": "rbl"},
-                      {"name": "session", "words": ["session", "a", "b", "c"], **both, "texts": [source, schedule, "step 4\nshow buyer\n"], "mayWrite": True}]
+                      {"name": "session", "words": ["session", "a", "b", "c"], "texts": [source, schedule, "step 4\nshow buyer\n"], "program": "rbl",
+                       "mayWrite": True}]
         lines = said("ask_short.js", questions)
         self.assertEqual(len(lines), len(questions))
         self.each([CASE.match(line).groups() for line in lines], lambda why: why)
