@@ -83,7 +83,8 @@ class Node(Cases):
     def test_words(self):
         """Each command, words that are no command or no text, and files that are missing, can't be read or are too long."""
         files = {**FILES, "long": "#" * (MOST + 1), "large": bytes(MOST_OF_IMAGE + 1)}
-        self.each([(" ".join(map(str, words))[:60], words, files) for words in [*NO_COMMANDS, *UNREAD, *TOO_LONG]], over_files)
+        self.each([(" ".join(map(str, words))[:60], words, files) for words in [*NO_COMMANDS, *UNREAD, *TOO_LONG, ["run", "source", "source"]]],
+                  over_files)
         self.each(commands(), over_files)
 
     def test_long_outputs(self):
