@@ -10,9 +10,11 @@ work=$(mktemp -d) || exit 1
 trap 'rm -rf "$work"' EXIT
 cd "$work" || exit 1
 ln -s "$clang" wasm-ld && ln -s "$clang" llvm-objcopy   # the toolchain's clang is these tools too, by their names
+# As the toolchain compiles for WebAssembly, but for -O2, which makes a module that is a fifth smaller than -O3 does.
 flags="--target=wasm64-unknown-unknown --no-default-config -mcpu=lime1 -O2 -ffunction-sections -fdata-sections"
-# A quotient of 128 bits is worked out in place, and what is never reached is a trap.
-flags+=" -mllvm -expand-div-rem-bits=64 -mllvm -expand-fp-convert-bits=64 -mllvm -trap-unreachable"
+for flag in expand-div-rem-bits=64 expand-fp-convert-bits=64 trap-unreachable disable-machine-licm disable-postra-machine-licm sink-common-insts=false; do
+    flags+=" -mllvm -$flag"
+done
 features="--enable-memory64 --enable-bulk-memory --enable-mutable-globals --enable-nontrapping-float-to-int --enable-sign-ext --enable-multivalue"
 printf '%s' "$3" >note
 made() {

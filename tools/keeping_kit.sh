@@ -2,8 +2,8 @@
 # Makes a copy of the toolchain whose clang keeps the last module that it is given, and tells where the toolchain stands: keeping_kit.sh FOLDER
 #
 # FOLDER/kit is the copy: links to all of it, but to the two scripts that find it by where they lie, and to clang. The module comes to
-# FOLDER/module.bc; one whose memory is to be checked as it runs, as `rt try` wants it, is kept and compiled no further. That rests on the
-# inside of the toolchain.
+# FOLDER/module.bc and is compiled no further: of one that `rt try` wants with its memory checked nothing is made, and of one that `rattle build`
+# wants as fast as can be an empty file. That rests on the inside of the toolchain.
 rt=$(readlink -f "$(command -v rt)") || rt=
 [ -n "$rt" ] || { echo "'rt' is not on the PATH" >&2; exit 1; }
 kit=$(dirname "$(dirname "$rt")")
@@ -18,8 +18,11 @@ cp "$kit/bin/rt" "$kit/bin/rtlib.py" "$copy/bin/"
 cat >"$copy/toolchain/bin/clang" <<END
 #!/bin/bash
 [ ! -f module.bc ] || cp module.bc "$1/module.bc"
-case "\$*" in *-fsanitize=address*) exit 1 ;; esac
-exec "$kit/toolchain/bin/clang" "\$@"
+case "\$*" in
+*-fsanitize=address*) exit 1 ;;
+*-O3*) : >module.o ;;
+*) exec "$kit/toolchain/bin/clang" "\$@" ;;
+esac
 END
 chmod +x "$copy/toolchain/bin/clang"
 echo "$kit"
