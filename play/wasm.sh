@@ -25,7 +25,7 @@ made() {
     ./wasm-ld -mwasm64 --no-entry --gc-sections --strip-all --stack-first -z stack-size=1048576 \
         --export=rbl_ask --export=rblview_ask --export=take --export=give -o linked engine.o heap.o memory.o wide.o &&
         ./llvm-objcopy --remove-section=TABLE --add-section=made=note linked marked &&   # a table of 64 bits, empty, which few engines read
-        wasm-opt $features --memory64-lowering marked -o lowered
+        wasm-opt $features --memory64-lowering -O1 marked -o lowered
 }
 made >said 2>&1 && mv lowered "$out" && exit 0
 cat said >&2
