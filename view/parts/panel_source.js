@@ -1,6 +1,11 @@
 /* The source: with the open blocks of the shown process, the alternates that run, and the statement of the turn where the trace tells its place. */
-const BLOCKS = blocksOfSource(SOURCE_LINES);
-const ROWS = SOURCE_LINES.map(() => element("sourcetext").appendChild(document.createElement("div")));
+let BLOCKS = [], ROWS = [];
+
+function layRows() {
+  BLOCKS = blocksOfSource(SOURCE_LINES);
+  element("sourcetext").textContent = "";
+  ROWS = SOURCE_LINES.map(() => element("sourcetext").appendChild(document.createElement("div")));
+}
 
 // What is marked on each line: pieces [from, to, class], and a bar for each alternate that runs there.
 function sourceMarks(t) {
