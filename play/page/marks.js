@@ -20,6 +20,16 @@ function markFault(fault) {
   editor.setGutterMarker(from.line, "faults", made("span", { class: "sign", title: fault.says }, "●"));
 }
 
+// Where the statement stands of the turn that is chosen in the picture, if the picture is of the text as it is.
+const statement = [];
+
+function showStatement(places) {
+  for (const mark of statement.splice(0)) mark.clear();
+  if (!picture.run || picture.run.texts.program !== textIn("program")) return;
+  for (const { line, from, to, name } of places) statement.push(editors.program.markText({ line, ch: from }, { line, ch: to }, { className: name }));
+  if (places.length && !editors.program.hasFocus()) editors.program.scrollIntoView({ line: places[0].line, ch: 0 }, 50);
+}
+
 function goTo(fault) {
   const { editor, from } = placeOf(fault);
   editor.setCursor(from);

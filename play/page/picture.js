@@ -9,6 +9,7 @@ function makePicture(page) {
   picture.isReady = new Promise(done => frame.addEventListener("load", done, { once: true }));
   frame.srcdoc = page;
   theme.tell = () => tellPicture({});
+  addEventListener("message", ({ source, data }) => { if (source === frame.contentWindow) showStatement(data.places); });
 }
 
 async function tellPicture(told) {

@@ -25,5 +25,5 @@ const turnsIn = list => list.length === 1 ? `turn ${list[0]}` : `turns ${list[0]
 const listed = words => words.length < 2 ? words.join("") : words.slice(0, -1).join(", ") + " and " + words[words.length - 1];
 const blockName = block => block.conversation >= 0 ? `the conversation ${run.conversations[block.conversation].name}` : `the block on line ${block.line}`;
 
-// What the page shows.
-const state = { turn: 0, process: 0, follow: true, survivors: false, width: 0, theme: "", playing: 0, first: 1 };
+// What the page shows; `tell` is told where the statement of the chosen turn stands.
+const state = { tell() {}, turn: 0, process: 0, follow: true, survivors: false, width: 0, theme: "", playing: 0, first: 1 };

@@ -84,9 +84,13 @@ function lineAsMarkup(text, pieces) {
   }).join("");
 }
 
+// Where the statement of the chosen turn stands: its pieces.
+const placesIn = marks => marks.flatMap(({ pieces }, line) => pieces.filter(([, , name]) => name.startsWith("place")).map(([from, to, name]) => ({ line, from, to, name })));
+
 // Shows the source at the chosen turn, and answers what brings the line into sight.
 function showSource() {
   const t = Math.min(state.turn, LAST), marks = sourceMarks(t), place = markPlace(marks, state.turn);
+  state.tell(placesIn(marks));
   SOURCE_LINES.forEach((text, line) => {
     const { pieces, bars } = marks[line], sign = `${bars}|${line === place}|${pieces.join(";")}`, row = ROWS[line];
     if (row.sign === sign) return;

@@ -69,7 +69,7 @@ function showRun() {
   show();
 }
 
-// A page around this one tells its runs: a source, a schedule, a trace, and the theme.
+// A page around this one tells its runs: a source, a schedule, a trace, and the theme. It shows the source itself, and is told where in it a turn is.
 function listenToPage() {
   let isListening = false;
   addEventListener("message", ({ source, data }) => {
@@ -79,6 +79,8 @@ function listenToPage() {
     take(data.source, data.schedule, data.trace);
     if (!isListening) listen();
     isListening = true;
+    document.documentElement.dataset.within = "yes";
+    state.tell = places => source.postMessage({ places }, "*");
     showRun();
   });
 }
