@@ -1,5 +1,10 @@
 /* Bytes that are packed: gzip or deflate, and base64 around it. */
-const bytesOfBase64 = text => Uint8Array.from(atob(text), letter => letter.charCodeAt(0));
+function bytesOfBase64(text) {
+  if (Uint8Array.fromBase64) return Uint8Array.fromBase64(text);
+  const letters = atob(text), bytes = new Uint8Array(letters.length);
+  for (let at = 0; at < bytes.length; at++) bytes[at] = letters.charCodeAt(at);
+  return bytes;
+}
 
 // All bytes of a stream; more than `most` of them are an error.
 async function allBytes(stream, most = Infinity) {

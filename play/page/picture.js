@@ -27,7 +27,7 @@ function notePicture(says) {
 async function fillPicture(tab, run) {
   const told = await run.answer("run", BOTH);
   if (run !== current || picture.run === run) return;
-  if (told.status !== 0) return notePicture(picture.run ? "This is the picture of the last run." : "There is no run to draw.");
+  if (told.status !== 0) return notePicture(picture.run ? "This is the picture of the last run, before the texts were changed." : "There is no run to draw.");
   const turns = turnsOf(textOfBytes(told.out));
   if (turns > MOST_DRAWN) return notePicture(`This run has ${many(turns, "turn")}, and a run of up to ${MOST_DRAWN.toLocaleString("en")} is drawn; the other tabs tell of it.`);
   const trace = await run.answer("trace", BOTH);

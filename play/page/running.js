@@ -1,5 +1,5 @@
 /* Runs the texts: a moment after a change by itself, and at once where it is asked for. */
-const SOON = 60, LATE = 600;
+const SOON = 40, LATE = 400;
 // After a key, how long a fault waits until it is told: a text is seldom whole while one types.
 const BEFORE_A_FAULT = 450;
 // How long a run may go on of which nobody wants to know any more, and one that is wanted before it says so.
@@ -31,13 +31,16 @@ async function ask(program, words, given) {
 function showBusy() {
   const isBusy = pending > 0 && performance.now() - busySince >= PATIENCE;
   element("stop").hidden = !isBusy;
-  element("panels").setAttribute("aria-busy", isBusy);
 }
+
+// Whether what is shown is of the texts as they stand.
+const setSettled = isSettled => element("panels").setAttribute("aria-busy", !isSettled);
 
 function changed() {
   lastChange = performance.now();
+  setSettled(false);
   clearTimeout(timer);
-  timer = setTimeout(run, Math.max(SOON, Math.min(LATE, 2 * lastTook)));
+  timer = setTimeout(run, Math.max(SOON, Math.min(LATE, lastTook / 2)));
   keep("texts", JSON.stringify(texts()));
   showWhichLesson();
 }
@@ -50,6 +53,7 @@ function runNow() {
 // Runs what stands there. A newer call takes the place of this one wherever it is.
 async function run() {
   clearTimeout(timer);
+  setSettled(false);
   const mine = current = new Run(texts()), from = performance.now();
   for (const end = performance.now() + PATIENCE; thread.isBusy && performance.now() < end;) await wait(10);
   if (mine !== current) return;

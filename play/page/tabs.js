@@ -32,7 +32,11 @@ async function fillText(tab, run) {
   panel.classList.remove("old");
 }
 
-const fillTab = run => (tabs.chosen.fill || fillText)(tabs.chosen, run);
+async function fillTab(run) {
+  setSettled(false);
+  await (tabs.chosen.fill || fillText)(tabs.chosen, run);
+  if (run === current) setSettled(true);
+}
 
 function chooseTab(tab) {
   tabs.chosen = tab;

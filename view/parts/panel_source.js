@@ -1,10 +1,11 @@
 /* The source: with the open blocks of the shown process, the alternates that run, and the statement of the turn where the trace tells its place. */
 let BLOCKS = [], ROWS = [];
 
+// A page around this one shows the source itself, and then there are no rows.
 function layRows() {
   BLOCKS = blocksOfSource(SOURCE_LINES);
   element("sourcetext").textContent = "";
-  ROWS = SOURCE_LINES.map(() => element("sourcetext").appendChild(document.createElement("div")));
+  ROWS = document.documentElement.dataset.within ? [] : SOURCE_LINES.map(() => element("sourcetext").appendChild(document.createElement("div")));
 }
 
 // What is marked on each line: pieces [from, to, class], and a bar for each alternate that runs there.
@@ -91,12 +92,12 @@ const placesIn = marks => marks.flatMap(({ pieces }, line) => pieces.filter(([, 
 function showSource() {
   const t = Math.min(state.turn, LAST), marks = sourceMarks(t), place = markPlace(marks, state.turn);
   state.tell(placesIn(marks));
-  SOURCE_LINES.forEach((text, line) => {
-    const { pieces, bars } = marks[line], sign = `${bars}|${line === place}|${pieces.join(";")}`, row = ROWS[line];
+  ROWS.forEach((row, line) => {
+    const { pieces, bars } = marks[line], sign = `${bars}|${line === place}|${pieces.join(";")}`;
     if (row.sign === sign) return;
     row.sign = sign;
     row.className = line === place ? "row here" : "row";
-    row.innerHTML = `<b>${line + 1}</b><u>${bars}</u><code>${lineAsMarkup(text, pieces) || " "}</code>`;
+    row.innerHTML = `<b>${line + 1}</b><u>${bars}</u><code>${lineAsMarkup(SOURCE_LINES[line], pieces) || " "}</code>`;
   });
   const levels = run.processes.length ? run.processes[state.process].levels.at(t) : [];
   const open = levels.length ? BLOCKS[levels[levels.length - 1].block] : null;

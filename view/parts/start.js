@@ -76,11 +76,11 @@ function listenToPage() {
     if (source !== parent || parent === window) return;
     setTheme(PALETTES[data.theme] ? data.theme : "");
     if (data.trace === undefined) return;
+    document.documentElement.dataset.within = "yes";
+    state.tell = places => source.postMessage({ places }, "*");
     take(data.source, data.schedule, data.trace);
     if (!isListening) listen();
     isListening = true;
-    document.documentElement.dataset.within = "yes";
-    state.tell = places => source.postMessage({ places }, "*");
     showRun();
   });
 }
