@@ -1,21 +1,20 @@
 #!/usr/bin/env python3
-"""Joins the playground to one file: join.py MODULE OUT
+"""Joins the playground to one file: join.py MODULE OUT, or join.py --check PAGE
 
 MODULE is the engine's WebAssembly module. The same parts and the same module give the same bytes. What the page may do stands in it as a
 policy, which names each script by its hash; the scripts of view/page.html are among them, since the picture's frame has the page's policy.
+With --check, it tells whether a page is made of the parts that stand here, and of the module that is in the page.
 """
 import base64
-import gzip
 import hashlib
 import json
-import os
 import re
 import sys
+import zlib
 
+sys.dont_write_bytecode = True
 import lessons
 
-HERE = os.path.dirname(os.path.abspath(__file__))
-ROOT = os.path.dirname(HERE)
 GRAMMARS = {"program": "editors/vscode/syntaxes/rbl.tmLanguage.json", "schedule": "editors/vscode/syntaxes/rbl-schedule.tmLanguage.json"}
 # Each script stands on those before it: those that come before anything is seen, and those of the page. The worker's run in the engine's thread.
 FIRST_SCRIPTS = ["view/parts/palette.js", "play/page/keeping.js", "play/page/theme.js"]
@@ -31,8 +30,26 @@ def text_of(path):
 
 
 def packed(content):
-    """Bytes as gzip and base64, without a time."""
-    return base64.b64encode(gzip.compress(content, 9, mtime=0)).decode("ascii")
+    """Bytes as gzip and base64, without a time and the name of a system."""
+    deflate = zlib.compressobj(9, zlib.DEFLATED, -15)
+    middle = deflate.compress(content) + deflate.flush()
+    ends = [b"\x1f\x8b\x08\0\0\0\0\0\x02\xff", zlib.crc32(content).to_bytes(4, "little") + len(content).to_bytes(4, "little")]
+    return base64.b64encode(middle.join(ends)).decode("ascii")
+
+
+def unpacked(page):
+    """A page with the hash of what is packed in each place: compressors differ, and what they pack does not."""
+    return re.sub(r'(<script type="application/octet-stream" id="\w+">)([^<]*)', lambda part: part[1] + hashlib.sha256(content_of(part[2])).hexdigest(), page)
+
+
+def content_of(text):
+    """What was packed."""
+    return zlib.decompress(base64.b64decode(text), 31)
+
+
+def module_of(page):
+    """The module that is in a page."""
+    return content_of(re.search(r'<script type="application/octet-stream" id="module">([^<]*)', page)[1])
 
 
 def data(value):
@@ -77,14 +94,25 @@ def joined(module):
     return page.replace("@POLICY@", policy([*scripts_of(page), editor, *scripts_of(view)]), 1)
 
 
-def main():
+def check(path):
+    """Tells where a page is not made of what stands here."""
+    with open(path, encoding="utf-8", newline="") as file:
+        page = file.read()
+    if unpacked(page) != unpacked(joined(module_of(page))):
+        sys.exit(f"{path} is not what play/join.py makes of the parts that stand here")
+
+
+def write(module, out):
     """Writes the page."""
-    if len(sys.argv) != 3:
-        sys.exit(__doc__.splitlines()[0])
-    with open(sys.argv[1], "rb") as file:
+    with open(module, "rb") as file:
         page = joined(file.read())
-    with open(sys.argv[2], "w", encoding="utf-8", newline="") as file:
+    with open(out, "w", encoding="utf-8", newline="") as file:
         file.write(page)
 
 
-main()
+if len(sys.argv) != 3:
+    sys.exit(__doc__.splitlines()[0])
+if sys.argv[1] == "--check":
+    check(sys.argv[2])
+else:
+    write(*sys.argv[1:])
