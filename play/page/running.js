@@ -40,7 +40,7 @@ function changed() {
   lastChange = performance.now();
   setSettled(false);
   clearTimeout(timer);
-  timer = setTimeout(run, Math.max(SOON, Math.min(LATE, lastTook / 2)));
+  timer = setTimeout(run, Math.max(SOON, Math.min(LATE, lastTook / 4)));
   keep("texts", JSON.stringify(texts()));
   showWhichLesson();
 }

@@ -49,4 +49,9 @@ async function start() {
   document.documentElement.dataset.ready = "yes";
 }
 
-if (!LACKS) start().catch(fault => notice(`This page could not begin: ${fault}`));
+if (!LACKS) {
+  start().catch(fault => {
+    notice(`This page could not begin: ${fault}`);
+    document.documentElement.dataset.ready = "no";
+  });
+}

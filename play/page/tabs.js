@@ -25,7 +25,7 @@ async function fillText(tab, run) {
   panel.classList.add("old");
   const told = await run.answer(tab.command, tab.takes);
   if (run !== current) return;
-  const isPrinted = Boolean(told.out && told.out.length);
+  const isPrinted = Boolean(told.out && (told.status === 0 || told.out.length));
   text.textContent = isPrinted ? shortened(textOfBytes(told.out)) : outcomeInWords(told, null);
   panel.querySelector("button").onclick = () => download(`${nameOfProgram()}.${tab.command}`, "text/plain", told.out);
   panel.querySelector("button").hidden = !isPrinted;
