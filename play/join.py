@@ -85,8 +85,8 @@ def joined(module):
         "STYLE": text_of("play/vendor/codemirror.css") + "\n" + text_of("play/page/style.css"),
         "HELP": text_of("play/page/help.html"),
         "LICENCE": text_of("play/vendor/LICENSE"),
-        "MODULE": packed(module), "VIEW": packed(view.encode()), "EDITOR": packed(editor.encode()),
-        "LESSONS": data(lessons.lessons()), "GRAMMARS": data({name: json.loads(text_of(path)) for name, path in GRAMMARS.items()}),
+        "MODULE": packed(module), "VIEW": packed(view.encode()), "EDITOR": packed(editor.encode()), "LESSONS": packed(data(lessons.lessons()).encode()),
+        "GRAMMARS": data({name: json.loads(text_of(path)) for name, path in GRAMMARS.items()}),
         "FIRST": together(FIRST_SCRIPTS), "CHECKS": together(["play/page/checks.js"]), "WORKER": together(WORKER),
         "SCRIPT": f'\n(function () {{\n"use strict";{together(SCRIPTS)}}})();\n',
     }

@@ -23,7 +23,7 @@ async function opening(page) {
 
 // Each tab against what the program itself prints.
 async function lessons(page, names) {
-  const all = JSON.parse(await page.told("lessons"));
+  const all = JSON.parse(zlib.gunzipSync(Buffer.from(await page.told("lessons"), "base64")));
   for (const { name, program, schedule, question } of names ? all.filter(one => names.includes(one.name)) : all) {
     await page.choose(name);
     for (const [tab, [command, takes]] of Object.entries(COMMANDS)) same(`${command} ${name}`, await page.tab(tab), native("rbl", [command, ...takes], { program, schedule }).out);

@@ -1,12 +1,12 @@
 /* The programs to begin with, each with the question of its lesson. */
 const FIRST = "step4";
 const OWN = "";
-const LESSONS = dataOf("lessons");
-let lesson = null;
+let LESSONS = [], lesson = null;
 
 const isLesson = ({ program, schedule }, one) => one.program === program && one.schedule === schedule;
 
-function makeLessons() {
+function makeLessons(given) {
+  LESSONS = given;
   const select = element("lesson"), groups = new Map();
   select.append(made("option", { value: OWN }));
   for (const one of LESSONS) {

@@ -3,7 +3,6 @@ const element = id => document.getElementById(id);
 const wait = milliseconds => new Promise(done => setTimeout(done, milliseconds));
 const many = (n, one, more) => `${n.toLocaleString("en")} ${n === 1 ? one : more || one + "s"}`;
 const listed = words => words.length < 2 ? words.join("") : `${words.slice(0, -1).join(", ")} and ${words[words.length - 1]}`;
-const dataOf = id => JSON.parse(element(id).textContent);
 
 function made(tag, attributes = {}, text = "") {
   const node = document.createElement(tag);

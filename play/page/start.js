@@ -34,15 +34,15 @@ function addScript(text) {
 async function start() {
   thread = new Thread(element("worker").textContent, element("module").textContent);
   thread.begin();
-  const [editor, view] = await Promise.all(["editor", "view"].map(id => unpacked(element(id).textContent)));
+  const [editor, view, lessons] = await Promise.all(["editor", "view", "lessons"].map(id => unpacked(element(id).textContent)));
   picture.page = view;
   makeTabs();
   makePicture(textOfBytes(view));
   addScript(textOfBytes(editor));
-  const grammars = dataOf("grammars");
+  const grammars = JSON.parse(element("grammars").textContent);
   makeEditor("program", "the program", grammars.program);
   makeEditor("schedule", "the schedule", grammars.schedule);
-  makeLessons();
+  makeLessons(JSON.parse(textOfBytes(lessons)));
   listen();
   if (!await followAddress()) putTexts(textsKept() || LESSONS.find(one => one.name === FIRST));
   await runNow();
