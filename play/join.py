@@ -7,6 +7,7 @@ With --check, it tells whether a page is made of the parts that stand here, and 
 """
 import base64
 import hashlib
+import html
 import json
 import re
 import sys
@@ -84,7 +85,7 @@ def joined(module):
     texts = {
         "STYLE": text_of("play/vendor/codemirror.css") + "\n" + text_of("play/page/style.css"),
         "HELP": text_of("play/page/help.html"),
-        "LICENCE": text_of("play/vendor/LICENSE"),
+        "LICENCE": html.escape(text_of("play/vendor/LICENSE")),
         "MODULE": packed(module), "VIEW": packed(view.encode()), "EDITOR": packed(editor.encode()), "LESSONS": packed(data(lessons.lessons()).encode()),
         "GRAMMARS": data({name: json.loads(text_of(path)) for name, path in GRAMMARS.items()}),
         "FIRST": together(FIRST_SCRIPTS), "CHECKS": together(["play/page/checks.js"]), "WORKER": together(WORKER),

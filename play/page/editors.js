@@ -12,7 +12,18 @@ function makeEditor(name, title, grammar) {
   editors[name].on("change", (_, change) => {
     if (change.origin === "setValue") return;
     forgetLink();
+    notice("");
     changed();
+  });
+  indentWrapped(editors[name]);
+}
+
+// What goes on behind the edge stands as far in as its line begins.
+function indentWrapped(editor) {
+  const wide = editor.defaultCharWidth();
+  editor.on("renderLine", (_, line, node) => {
+    const indent = (line.text.length - line.text.trimStart().length + 2) * wide;
+    Object.assign(node.style, { textIndent: `${-indent}px`, paddingLeft: `${indent + 4}px` });
   });
 }
 

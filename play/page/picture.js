@@ -19,6 +19,7 @@ async function tellPicture(told) {
 
 // What the picture is of, where it is not of the texts as they stand.
 function notePicture(says) {
+  if (says) showStatement([]);
   element("picturenote").textContent = says;
   element("picturenote").hidden = !says;
   picture.frame.classList.toggle("old", Boolean(says));

@@ -30,7 +30,8 @@ async function showFault(found) {
   element("faultplace").disabled = !found.line;
   element("faultsays").textContent = found.says;
   element("faultname").textContent = found.name ? `What ${found.name} means` : "What was told";
-  element("faulttext").textContent = found.reason;
+  const end = found.reason.indexOf("\n") + 1 || found.reason.length;
+  element("faulttext").replaceChildren(made("span", {}, found.reason.slice(0, end)), found.reason.slice(end));
   element("explained").textContent = "";
   const means = found.name ? await explain(found.name) : "";
   if (fault.now === found) element("explained").textContent = means;
