@@ -23,11 +23,14 @@ class Driven {
     await this.until("document.documentElement.dataset.ready !== undefined");
   }
   settled() { return this.until(`document.getElementById("panels").getAttribute("aria-busy") === "false"`); }
-  // Types texts in place of those that are there.
+  // Types texts in place of those that are there, all at once; `type` waits for their run.
+  put(texts) {
+    const edits = Object.entries(texts).map(([name, text]) =>
+      `(editor => editor.replaceRange(${JSON.stringify(text)}, { line: 0, ch: 0 }, { line: editor.lineCount(), ch: 0 }, "+input"))(${Driven.editor(name)})`);
+    return this.ask(`void [${edits.join(", ")}]`);
+  }
   async type(texts) {
-    for (const [name, text] of Object.entries(texts)) {
-      await this.ask(`(editor => { editor.replaceRange(${JSON.stringify(text)}, { line: 0, ch: 0 }, { line: editor.lineCount(), ch: 0 }, "+input"); })(${Driven.editor(name)})`);
-    }
+    await this.put(texts);
     await this.settled();
   }
   static editor(name) { return `document.querySelector("#${name} .CodeMirror").CodeMirror`; }

@@ -111,9 +111,15 @@ def write(module, out):
         file.write(page)
 
 
-if len(sys.argv) != 3:
-    sys.exit(__doc__.splitlines()[0])
-if sys.argv[1] == "--check":
-    check(sys.argv[2])
-else:
-    write(*sys.argv[1:])
+def main():
+    """Writes or checks a page."""
+    if len(sys.argv) != 3:
+        sys.exit(__doc__.splitlines()[0])
+    if sys.argv[1] == "--check":
+        check(sys.argv[2])
+    else:
+        write(*sys.argv[1:])
+
+
+if __name__ == "__main__":
+    main()

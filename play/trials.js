@@ -18,6 +18,7 @@ async function opening(page) {
   same("the first outcome", await page.told("outcome"), "After 60 turns: buyer and shop are done.");
   same("marks of the first picture", await page.frame(`d.querySelectorAll("#drawing [data-thing]").length`) > 40, true);
   same("nothing is amiss", await page.isHidden("notice"), true);
+  same("what the engine is", /^(not )?proved.* by /.test(await page.told("made")), true);
   await page.browser.picture(path.join(OUT, `${page.browser.constructor.name}.png`));
 }
 
@@ -119,8 +120,7 @@ async function links(page) {
 // A run that would last for hours is stopped; then another one runs.
 async function stopping(page) {
   await page.open(addressOf(PAGE));
-  await page.ask(`(editor => editor.replaceRange(${JSON.stringify(LONG.program)}, { line: 0, ch: 0 }, { line: editor.lineCount(), ch: 0 }, "+input"))(${Driven.editor("program")})`);
-  await page.ask(`(editor => editor.replaceRange(${JSON.stringify(LONG.schedule)}, { line: 0, ch: 0 }, { line: editor.lineCount(), ch: 0 }, "+input"))(${Driven.editor("schedule")})`);
+  await page.put(LONG);
   same("a long run can be stopped", await page.until(`!document.getElementById("stop").hidden`), true);
   const from = Date.now();
   await page.ask("new Promise(done => requestAnimationFrame(() => requestAnimationFrame(done)))");
@@ -130,7 +130,7 @@ async function stopping(page) {
   same("it is stopped", await page.told("outcome"), "Stopped.");
   await page.choose("step1");
   same("and another one runs", await page.told("outcome"), "After 20 turns: p is done.");
-  await page.ask(`(editor => editor.replaceRange(${JSON.stringify(LONG.program)}, { line: 0, ch: 0 }, { line: editor.lineCount(), ch: 0 }, "+input"))(${Driven.editor("program")})`);
+  await page.put(LONG);
   await page.until(`!document.getElementById("stop").hidden`);
   await page.type(example("step2"));
   same("a changed text does not wait for it", await page.told("outcome"), "After 30 turns: p is done.");

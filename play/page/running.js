@@ -67,6 +67,11 @@ async function run() {
   lastTook = performance.now() - from;
 }
 
+// Stops what runs, and what was about to run.
 function stop() {
+  clearTimeout(timer);
+  if (!current.answers.has("run")) current.answers.set("run", { isStopped: true });
   thread.stop();
+  showOutcome("Stopped.", true);
+  setSettled(true);
 }

@@ -17,7 +17,7 @@ class Thread {
   begin() {
     if (this.#worker) return;
     this.#worker = new Worker(this.#address);
-    this.#worker.onmessage = ({ data }) => { if (data.module) this.#module = data.module; else this.#answered(data); };
+    this.#worker.onmessage = ({ data }) => { if (data.module) this.#compiled(data); else this.#answered(data); };
     this.#worker.onmessageerror = () => this.#answered({ fault: "the browser lost the answer" });
     this.#worker.onerror = event => { event.preventDefault(); this.#answered({ fault: event.message || "the browser lets no thread start here" }); };
     this.#worker.postMessage(this.#module ? { module: this.#module } : { packed: this.#packed });
@@ -30,6 +30,11 @@ class Thread {
       this.#asked.push(done);
       this.#worker.postMessage({ program, words, texts });
     });
+  }
+
+  #compiled({ module, made }) {
+    this.#module = module;
+    element("made").textContent = made;
   }
 
   #answered(answer) {

@@ -8,7 +8,7 @@ const compiled = packed => WebAssembly.compileStreaming(new Response(through(byt
 
 async function begin({ packed, module }) {
   engineModule = module || await compiled(packed);
-  if (packed) postMessage({ module: engineModule });
+  if (packed) postMessage({ module: engineModule, made: Engine.made(engineModule) });
 }
 
 function answer({ program, words, texts }) {
