@@ -1,9 +1,13 @@
 //! A program over files in memory.
 
+ghost use Rattle.std.specs.Prelude.{◌≡◌, IfOk};
+ghost use Rattle.rb_outside.specs.Started.{stored_files};
+ghost use Rattle.rb_memory.specs.Ending.{EndsInMemory, EndsOf};
+
 use crate::room::Room;
 use crate::texts::Texts;
 use rb_commands::Words;
-use rb_outside::Memory;
+use rb_base::Memory;
 use rb_tell::Left;
 use std::alloc::Global;
 
@@ -26,17 +30,23 @@ pub struct Answer {
 
 impl Answer {
     /// The bytes that it wrote.
-    pub fn written(&self) -> &[u8] {
+    pub fn written(&self) -> &[u8]
+        ensures { result.now ≡ self.now.written.bytes }
+    {
         self.written.bytes()
     }
 
     /// The bytes that it told: why a text was refused, which file is not there, or that the room was too small.
-    pub fn told(&self) -> &[u8] {
+    pub fn told(&self) -> &[u8]
+        ensures { result.now ≡ self.now.told.bytes }
+    {
         self.told.bytes()
     }
 
     /// The exit status.
-    pub fn number(&self) -> u8 {
+    pub fn number(&self) -> u8
+        ensures { result ≡ self.now.number }
+    {
         self.number
     }
 }
@@ -50,7 +60,10 @@ pub fn in_memory(
     files: Vec<(Vec<u8>, Vec<u8>)>,
     room: usize,
     reason_room: usize,
-) -> Result<Answer, Memory> {
+) -> Result<Answer, Memory>
+    ensures { IfOk result (λ a. EndsInMemory (EndsOf program words.now) (stored_files files.items) room reason_room
+        a.written.bytes a.told.bytes a.number a.telling) }
+{
     let mut shelf = Texts::new(alloc, files);
     let out = Room::new(alloc, room)?;
     let mut told = Room::new(alloc, reason_room)?;
