@@ -1,6 +1,6 @@
 -- How a program ends over files in memory, and what it leaves in places of so many bytes.
 use Rattle.std.specs.Prelude.{◌≡◌, ℕ, List, [], codes, Option, Some}
-use Rattle.rb_outside.specs.Outside.{Faults, File, no_faults}
+use Rattle.rb_outside.specs.Outside.{Faults, File, no_faults, went_well}
 use Rattle.rb_hall.specs.Answers.{Scene}
 use Rattle.rb_verdict.specs.Words.{Request, request_for}
 use Rattle.rb_tell.specs.Entrance.{ProgramEnds}
@@ -8,7 +8,7 @@ use Rattle.rb_tell.specs.declared.end.Telling.{Telling}
 use Rattle.rb_show.specs.Entrance.{WishedEnds}
 use Rattle.rb_show.specs.Wished.{IsWished}
 use Rattle.rb_show.specs.Words.{wish_of}
-use Rattle.rb_memory.specs.Kept.{FailsWhenFull}
+use Rattle.rb_memory.specs.Kept.{FailsWhenFull, KeptBytes, KeptTexts, no_fault}
 use Rattle.rb_memory.specs.declared.in_memory.Program.{Program}
 use Rattle.rb_memory.specs.declared.in_memory.Program.TheVariants as programs
 
@@ -26,6 +26,20 @@ EndsOf programs.Rblview words = WishedEnds (wish_of words)
 abbrev pub IsAsked : Program → List (List ℕ) → Request → Type 0
 IsAsked programs.Rbl words request = request ≡ request_for words
 IsAsked programs.Rblview words request = IsWished (wish_of words) request
+
+-- the scene of files and of a place in memory; no call of such files is a fault
+abbrev pub scene_in : KeptTexts → KeptBytes → Scene
+scene_in texts place = record {
+  files = Some texts.files;
+  starts = texts.starts;
+  read_faults = no_fault texts;
+  written = Some place.bytes;
+  write_faults = place.faults;
+}
+
+-- a place, as if no call before had failed last
+abbrev pub quiet : KeptBytes → KeptBytes
+quiet place = record { room = place.room; bytes = place.bytes; faults = went_well place.faults }
 
 -- what a program finds: these files, of which none was started, and nothing written
 abbrev pub opening : List File → Scene

@@ -8,6 +8,10 @@ pub record KeptTexts : Type 0 where
   pub starts : List Start
   pub failed_last : Bool
 
+-- their faults: there was none, whether or not the last call failed
+abbrev pub no_fault : KeptTexts → Faults
+no_fault texts = record { count = 0; failed_last = texts.failed_last }
+
 -- Bytes in a place for so many.
 pub record KeptBytes : Type 0 where
   pub room : ℕ

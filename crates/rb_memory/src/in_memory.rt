@@ -1,14 +1,14 @@
 //! A program over files in memory.
 
-ghost use Rattle.std.specs.Prelude.{◌≡◌, IfOk};
+ghost use Rattle.std.specs.Prelude.{◌≡◌, [], Some, IfOk};
 ghost use Rattle.rb_outside.specs.Started.{stored_files};
-ghost use Rattle.rb_memory.specs.Ending.{EndsInMemory, EndsOf};
+ghost use Rattle.rb_memory.specs.Ending.{EndsInMemory, EndsOf, quiet, scene_in};
 
 use crate::room::Room;
 use crate::texts::Texts;
 use rb_commands::Words;
 use rb_base::Memory;
-use rb_tell::Left;
+use rb_tell::{Left, Telling};
 use std::alloc::Global;
 
 /// One of the two programs.
@@ -20,12 +20,13 @@ pub enum Program {
     Rblview,
 }
 
-/// How a program ended: what it wrote and what it told, and its exit status.
+/// How a program ended: what it wrote and what it told, its exit status, and what became of what it told.
 #[derive(Drop)]
 pub struct Answer {
     written: Room,
     told: Room,
     number: u8,
+    telling: Telling,
 }
 
 impl Answer {
@@ -49,6 +50,13 @@ impl Answer {
     {
         self.number
     }
+
+    /// What became of what it told.
+    pub fn telling(&self) -> Telling
+        ensures { result ≡ self.now.telling }
+    {
+        self.telling
+    }
 }
 
 /// Carries out what the words ask a program for over these files, each a name and its bytes, of two with one name the first; and keeps the first
@@ -67,20 +75,8 @@ pub fn in_memory(
     let mut shelf = Texts::new(alloc, files);
     let out = Room::new(alloc, room)?;
     let mut told = Room::new(alloc, reason_room)?;
-    let left = match program {
-        Program::Rbl => rb_tell::hall(alloc, words, &mut shelf, out, &mut told),
-        Program::Rblview => rb_show::hall(alloc, words, &mut shelf, out, &mut told),
-    };
-    answer_in(left, told, room, reason_room)
-}
-
-// The answer of a call. Another room than was given does not come back; since calls over any sink do not say so, it is looked at.
-fn answer_in(
-    left: Left<Room>,
-    told: Room,
-    room: usize,
-    reason_room: usize,
-) -> Result<Answer, Memory> {
+    let left = carried(alloc, program, words, &mut shelf, out, &mut told);
+    // The places that come back are those that were given; since calls over any sink do not say so, it is looked at.
     if left.sink.room() != room || told.room() != reason_room {
         return Err(Memory);
     }
@@ -88,5 +84,26 @@ fn answer_in(
         written: left.sink,
         told,
         number: left.number,
+        telling: left.told,
     })
+}
+
+// Carries out what the words ask a program for.
+fn carried(
+    alloc: Global,
+    program: Program,
+    words: &Words,
+    shelf: &mut Texts,
+    out: Room,
+    told: &mut Room,
+) -> Left<Room>
+    requires { out.bytes ≡ [] }
+    ensures files { shelf.new.files ≡ shelf.old.files }
+    ensures ends { EndsOf program words.now (scene_in shelf.old (quiet out)) (scene_in shelf.new result.sink) (Some told.old.bytes) (Some told.new.bytes)
+        told.old.faults told.new.faults result.number result.told }
+{
+    match program {
+        Program::Rbl => rb_tell::hall(alloc, words, shelf, out, told),
+        Program::Rblview => rb_show::hall(alloc, words, shelf, out, told),
+    }
 }

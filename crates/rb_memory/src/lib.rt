@@ -4,6 +4,7 @@
 pub mod asked;
 pub mod front;
 pub mod in_memory;
+pub mod laws;
 pub mod named;
 pub mod room;
 pub mod texts;

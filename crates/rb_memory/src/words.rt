@@ -18,7 +18,10 @@ pub fn text_of_words(bytes: &[u8]) -> Option<&str>
     while let Some((_word, behind)) = rest.split_once('\0') {
         rest = behind;
     }
-    if rest.is_empty() { Some(text) } else { None }
+    if !rest.is_empty() {
+        return None;
+    }
+    Some(text)
 }
 
 /// The words of such a text.
