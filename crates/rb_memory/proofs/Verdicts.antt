@@ -20,8 +20,8 @@ use Rattle.rb_show.specs.Wished.{explains_of as view_explains_of}
 use Rattle.rb_memory.specs.Ending.{EndsInMemory, EndsOf, opening}
 use Rattle.rb_memory.specs.Kept.{FailsWhenFull}
 use Rattle.rb_memory.specs.Laws.{EndsOverTexts, IsCut, IsWhole, TextsDecide, written_for}
-use Rattle.rb_memory.specs.declared.in_memory.Program.{Program}
-use Rattle.rb_memory.specs.declared.in_memory.Program.TheVariants as programs
+use Rattle.rb_memory.specs.declared.over_texts.Program.{Program}
+use Rattle.rb_memory.specs.declared.over_texts.Program.TheVariants as programs
 
 -- ---- what was to be written where a write failed
 
@@ -79,13 +79,13 @@ module _ (files : List File) (wanted : List Wants) (texts : List (List ℕ)) (st
       → EndsAsJudged {W = Unit {0}} judges [] texts (written_all text) out.Done
   as_judged judges text ended =
       elim (completed {W = Unit {0}} judges (λ ts fault why. Unit {0}) wanted ⊥ (opening files) (written_all text) out.Done
-          (text, ended, refl, record { written = refl; well = refl }) files [] texts (record {
-            files_told = refl;
-            bytes_told = refl;
-            stored = stored;
-            no_read_fault = none_rose;
-            no_write_fault = none_rose;
-          })) [
+      (text, ended, refl, record { written = refl; well = refl }) files [] texts (record {
+        files_told = refl;
+        bytes_told = refl;
+        stored = stored;
+        no_read_fault = none_rose;
+        no_write_fault = none_rose;
+      })) [
         | inl memory ↦ absurd (done_not_memory memory)
         | inr ends ↦ ends
       ]
@@ -165,11 +165,15 @@ module _ (explains : Explaining Why) (request : Request) (files : List File) (ro
       let within : k ≤ length text = part.written.1 in
       let at : k ≡ room = omega (arith, many, filled, within, length-take k text) in
       let same : text ≡ written_for verdict.0 = verdict.2 in
-      inr (verdict.0, verdict.1, inr (record {
-        too_small = subst (λ (t : List ℕ). room ≤ length t) same (omega (arith, at, within));
-        front = front ∙ ap (λ n. take n text) at ∙ ap (take room) same;
-        says = is;
-      }))
+      inr (
+        verdict.0,
+        verdict.1,
+        inr (record {
+          too_small = subst (λ (t : List ℕ). room ≤ length t) same (omega (arith, at, within));
+          front = front ∙ ap (λ n. take n text) at ∙ ap (take room) same;
+          says = is;
+        }),
+      )
 
 pub texts_decide : TextsDecide
 texts_decide programs.Rbl words files room reason_room bytes told number telling ends =

@@ -4,7 +4,7 @@ use Rattle.rb_tell.specs.declared.end.Telling.{Telling}
 use Rattle.rb_memory.specs.Asked.{AreWords, files_named}
 use Rattle.rb_memory.specs.Ending.{EndsInMemory, EndsOf}
 use Rattle.rb_memory.specs.declared.asked.Ended.{Ended}
-use Rattle.rb_memory.specs.declared.in_memory.Program.{Program}
+use Rattle.rb_memory.specs.declared.over_texts.Program.{Program}
 
 -- so many bytes stand at the front of a place, and behind them what stood there
 abbrev pub IsFront : ℕ → List ℕ → List ℕ → Type 0
@@ -21,5 +21,5 @@ pub data CallEnds (program : Program) (bytes : List ℕ) (texts : List (List ℕ
   no_memory : (words : List (List ℕ)) → AreWords bytes words → SaysOnly 5 ended → CallEnds program bytes texts out reason ended
   carried_out : (words : List (List ℕ)) (telling : Telling) → AreWords bytes words
       → EndsInMemory (EndsOf program words) (files_named words texts) (length out) (length reason) (take ended.written out) (take ended.told reason)
-          ended.status telling
+      ended.status telling
       → CallEnds program bytes texts out reason ended

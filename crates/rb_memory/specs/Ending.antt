@@ -9,8 +9,8 @@ use Rattle.rb_show.specs.Entrance.{WishedEnds}
 use Rattle.rb_show.specs.Wished.{IsWished}
 use Rattle.rb_show.specs.Words.{wish_of}
 use Rattle.rb_memory.specs.Kept.{FailsWhenFull, KeptBytes, KeptTexts, no_fault}
-use Rattle.rb_memory.specs.declared.in_memory.Program.{Program}
-use Rattle.rb_memory.specs.declared.in_memory.Program.TheVariants as programs
+use Rattle.rb_memory.specs.declared.over_texts.Program.{Program}
+use Rattle.rb_memory.specs.declared.over_texts.Program.TheVariants as programs
 
 -- How a program ends: from one scene to another, with what was told before and by then, and the faults of that; with this exit status, and
 -- with this become of what was to be told.

@@ -8,7 +8,7 @@ use Rattle.rb_verdict.specs.Words.{Command, Request}
 use Rattle.rb_tell.specs.Entrance.{done_number}
 use Rattle.rb_tell.specs.declared.end.Telling.{Telling}
 use Rattle.rb_memory.specs.Ending.{EndsInMemory, EndsOf, IsAsked}
-use Rattle.rb_memory.specs.declared.in_memory.Program.{Program}
+use Rattle.rb_memory.specs.declared.over_texts.Program.{Program}
 
 -- what is to be written for a judgement: its text, or the line of the refusal
 abbrev pub written_for : Judgement → List ℕ

@@ -4,8 +4,8 @@ ghost use Rattle.rb_memory.specs.Asked.{AreWords};
 ghost use Rattle.rb_memory.specs.Called.{CallEnds, IsFront, SaysOnly};
 
 use crate::front::put_front;
-use crate::in_memory::{Program, in_memory};
 use crate::named::files_named;
+use crate::over_texts::{Program, in_memory};
 use crate::words::{text_of_words, words_in};
 use rb_base::Memory;
 use std::alloc::Global;
@@ -70,10 +70,12 @@ fn asked(
     let words = words_in(alloc, words)?;
     let files = files_named(alloc, words.list(), texts)?;
     let answer = in_memory(alloc, program, &words, files, out.len(), reason.len())?;
+    put_front(out, answer.written());
+    put_front(reason, answer.told());
     Ok(Ended {
-        status: answer.number() as u64,
-        written: put_front(out, answer.written()),
-        told: put_front(reason, answer.told()),
+        status: u64::from(answer.number()),
+        written: answer.written().len(),
+        told: answer.told().len(),
     })
 }
 

@@ -16,7 +16,7 @@
 
 ghost use Rattle.std.specs.Prelude.{◌≡◌, ◌≤◌, [], ◌∷◌, length, take, drop};
 ghost use Rattle.rb_memory.specs.Called.{CallEnds};
-ghost use Rattle.rb_memory.specs.declared.in_memory.Program.TheVariants.{Rbl, Rblview};
+ghost use Rattle.rb_memory.specs.declared.over_texts.Program.TheVariants.{Rbl, Rblview};
 
 use rb_memory::{Ended, Program, ask};
 use std::alloc::Global;

@@ -30,4 +30,3 @@ returns-then-not-is_empty c = λ words are.
     let none : rest ≡ [] = not_ended text rest before words cut (ap (slice_split (λ b. nat_eq b 0)) c.in-Ok.ensures.cases.0 ∙ are.1) in
     let empty : false ≡ true = c.if-not-is_empty.ensures ∙ ap (λ (r : List ℕ). length r == 0) none in
     cc
-
