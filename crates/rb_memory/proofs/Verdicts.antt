@@ -67,8 +67,8 @@ some_same a b e = cc
 done_not_refused : (refusal : Refusal (Unit {0})) → out.Done ≡ out.Refused refusal → ⊥
 done_not_refused refusal e = cc
 
-done_not_memory : out.Done {W = Unit {0}} ≡ out.Memory → ⊥
-done_not_memory e = cc
+done_not_memory : (done memory : Outcome (Unit {0})) → done ≡ out.Done → memory ≡ out.Memory → done ≡ memory → ⊥
+done_not_memory done memory is was e = cc
 
 module _ (files : List File) (wanted : List Wants) (texts : List (List ℕ)) (stored : AreStored files wanted texts) (new : List Start) where
   -- the scene of a call that wrote all of it
@@ -86,7 +86,7 @@ module _ (files : List File) (wanted : List Wants) (texts : List (List ℕ)) (st
         no_read_fault = none_rose;
         no_write_fault = none_rose;
       })) [
-        | inl memory ↦ absurd (done_not_memory memory)
+        | inl memory ↦ absurd (done_not_memory out.Done out.Memory refl refl memory)
         | inr ends ↦ ends
       ]
 
@@ -144,7 +144,7 @@ module _ (explains : Explaining Why) (request : Request) (files : List File) (ro
   full count is one =
       elim writes_well.1 [
         | inl none ↦ absurd (omega (arith, none, is, one))
-        | inr full ↦ full
+        | inr filled ↦ filled
       ]
 
   ended : (outcome : Outcome Why) (told : Scene) → number ≡ number_of request.command outcome

@@ -1,5 +1,5 @@
 -- What a call over texts is asked: its words, and the files that they name.
-use Rattle.std.specs.Prelude.{◌≡◌, ℕ, List, [], ◌∷◌, ◌++◌, drop, map}
+use Rattle.std.specs.Prelude.{◌≡◌, ℕ, nat_eq, List, [], ◌∷◌, ◌++◌, drop, map}
 use Rattle.std.specs.List.{slice_split, zip}
 use Rattle.std.specs.Str.{IsUtf8}
 use Rattle.rb_outside.specs.Outside.{File}

@@ -48,7 +48,14 @@ pub extern "C" fn rbl_ask(
     ensures ends { CallEnds Rbl words.now (take count (first.now ∷ second.now ∷ third.now ∷ [])) out.new reason.new ended.new }
 {
     let texts = [first, second, third];
-    *ended = ask(alloc, Program::Rbl, words, &texts[..count.min(3)], out, reason);
+    *ended = ask(
+        alloc,
+        Program::Rbl,
+        words,
+        &texts[..count.min(3)],
+        out,
+        reason,
+    );
 }
 
 /// Carries out what the words ask `rblview` for, in the same way.
@@ -69,5 +76,12 @@ pub extern "C" fn rblview_ask(
     ensures ends { CallEnds Rblview words.now (take count (first.now ∷ second.now ∷ third.now ∷ [])) out.new reason.new ended.new }
 {
     let texts = [first, second, third];
-    *ended = ask(alloc, Program::Rblview, words, &texts[..count.min(3)], out, reason);
+    *ended = ask(
+        alloc,
+        Program::Rblview,
+        words,
+        &texts[..count.min(3)],
+        out,
+        reason,
+    );
 }
