@@ -67,8 +67,8 @@ some_same a b e = cc
 done_not_refused : (refusal : Refusal (Unit {0})) → out.Done ≡ out.Refused refusal → ⊥
 done_not_refused refusal e = cc
 
-done_not_memory : (done memory : Outcome (Unit {0})) → done ≡ out.Done → memory ≡ out.Memory → done ≡ memory → ⊥
-done_not_memory done memory is was e = cc
+done_not_memory : (a b : Outcome (Unit {0})) → a ≡ out.Done → b ≡ out.Memory → a ≡ b → ⊥
+done_not_memory a b is was e = cc
 
 module _ (files : List File) (wanted : List Wants) (texts : List (List ℕ)) (stored : AreStored files wanted texts) (new : List Start) where
   -- the scene of a call that wrote all of it

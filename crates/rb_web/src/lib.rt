@@ -48,14 +48,8 @@ pub extern "C" fn rbl_ask(
     ensures ends { CallEnds Rbl words.now (take count (first.now ∷ second.now ∷ third.now ∷ [])) out.new reason.new ended.new }
 {
     let texts = [first, second, third];
-    *ended = ask(
-        alloc,
-        Program::Rbl,
-        words,
-        &texts[..count.min(3)],
-        out,
-        reason,
-    );
+    let texts = &texts[..count.min(3)];
+    *ended = ask(alloc, Program::Rbl, words, texts, out, reason);
 }
 
 /// Carries out what the words ask `rblview` for, in the same way.
@@ -76,12 +70,6 @@ pub extern "C" fn rblview_ask(
     ensures ends { CallEnds Rblview words.now (take count (first.now ∷ second.now ∷ third.now ∷ [])) out.new reason.new ended.new }
 {
     let texts = [first, second, third];
-    *ended = ask(
-        alloc,
-        Program::Rblview,
-        words,
-        &texts[..count.min(3)],
-        out,
-        reason,
-    );
+    let texts = &texts[..count.min(3)];
+    *ended = ask(alloc, Program::Rblview, words, texts, out, reason);
 }

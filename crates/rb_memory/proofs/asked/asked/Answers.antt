@@ -26,6 +26,6 @@ returns-clause-ends c =
     answer.told.bytes (take (length c.told-2.result.now) reason)
     (c.in_ok-files.ensures ∙ ap (λ (ws : List (List ℕ)). named ws texts) c.list.ensures) front.0 told_front.0
     (sym c.number.ensures ∙ sym c.from.ensures)
-    (sym c.written.ensures ∙ front.2.1 ∙ ap (λ (b : List ℕ). take (length b) out) (c.written.ensures ∙ sym c.written-2.ensures))
-    (sym c.told.ensures ∙ told_front.2.1 ∙ ap (λ (b : List ℕ). take (length b) reason) (c.told.ensures ∙ sym c.told-2.ensures))
+    (sym c.written.ensures ∙ front.2 ∙ ap (λ (b : List ℕ). take (length b) out) (c.written.ensures ∙ sym c.written-2.ensures))
+    (sym c.told.ensures ∙ told_front.2 ∙ ap (λ (b : List ℕ). take (length b) reason) (c.told.ensures ∙ sym c.told-2.ensures))
     ends)
