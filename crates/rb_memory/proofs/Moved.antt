@@ -5,7 +5,8 @@ use Rattle.rb_outside.specs.Outside.{File}
 use Rattle.rb_tell.specs.declared.end.Telling.{Telling}
 use Rattle.rb_memory.specs.Ending.{EndsInMemory, Ending}
 
-pub same_end : (So : Ending) (telling : Telling) (files files' : List File) (room room' reason reason' number number' : ℕ) (bytes bytes' told told' : List ℕ)
+pub same_end : (So : Ending) (telling : Telling) (files files' : List File) (room room' reason reason' number number' : ℕ)
+    (bytes bytes' told told' : List ℕ)
     → files ≡ files' → room ≡ room' → reason ≡ reason' → number ≡ number' → bytes ≡ bytes' → told ≡ told'
     → EndsInMemory So files room reason bytes told number telling → EndsInMemory So files' room' reason' bytes' told' number' telling
 same_end So telling files files' room room' reason reason' number number' bytes bytes' told told' f r s n b t ends =

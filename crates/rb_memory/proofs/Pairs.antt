@@ -1,5 +1,5 @@
 -- A loop over the pairs of two slices, and files that are made of such pairs.
-use Rattle.std.proofs.Common.{◌≡◌, ℕ, min, List, [], ◌∷◌, map, length, take, Bor, Option, None, String, string_bytes, refl, sym, ap, ◌∙◌, Iter}
+use Rattle.std.proofs.Common.{◌≡◌, ℕ, List, [], ◌∷◌, map, length, take, Bor, Option, None, String, string_bytes, refl, sym, ap, ◌∙◌, Iter}
 use Rattle.std.specs.declared.alloc.Global.{Global}
 use Rattle.std.specs.declared.iter.Zip.{Zip}
 use Rattle.std.specs.Iterator.{Yields}
@@ -9,7 +9,7 @@ use Rattle.std.specs.Slice.Iter.{iter_rest}
 use Rattle.std.proofs.lemmas.Iterator.{zips}
 use Rattle.std.proofs.lemmas.Fn.{fronts}
 use Rattle.std.proofs.Math.Seq.{take-length}
-use Rattle.std.proofs.lemmas.Slice.Zip.{Zip-more, zip_end, length-zip}
+use Rattle.std.proofs.lemmas.Slice.Zip.{zip_end, length-zip}
 use Rattle.rb_outside.specs.Outside.{File}
 
 module _ {A B : Type 0} where

@@ -7,7 +7,8 @@ use Rattle.std.proofs.lemmas.List.Sums.{fails_before_first}
 
 -- the first part ends at the first 0
 pub first_part : (text word behind : List ℕ)
-    → (position_or_len (λ b. nat_eq b 0) text < length text) × (word ≡ before_first (λ b. nat_eq b 0) text) × (behind ≡ after_first (λ b. nat_eq b 0) text)
+    → (position_or_len (λ b. nat_eq b 0) text < length text) × (word ≡ before_first (λ b. nat_eq b 0) text)
+    × (behind ≡ after_first (λ b. nat_eq b 0) text)
     → slice_split (λ b. nat_eq b 0) text ≡ word ∷ slice_split (λ b. nat_eq b 0) behind
 first_part text word behind (inside, is, left) =
     slice_split_first (λ b. nat_eq b 0) text 0 inside

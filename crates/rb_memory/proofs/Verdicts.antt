@@ -1,26 +1,24 @@
 -- From the end of a program over files in memory to the verdict on their texts.
-use Rattle.std.proofs.Common.{◌≡◌, ◌⊎◌, ◌≤◌, ℕ, List, [], ◌∷◌, ◌++◌, length, take, Option, Some, refl, sym, ap, subst, ◌∙◌, inl, inr, arith, length-take}
-use Rattle.rb_outside.specs.Outside.{File, Start, Rose, no_faults, failed_once, one_more as next_count}
+use Rattle.std.proofs.Common.{◌≡◌, ◌≤◌, ℕ, List, [], ◌∷◌, ◌++◌, length, take, Some, refl, sym, ap, subst, ◌∙◌, inl, inr, arith, length-take}
+use Rattle.rb_outside.specs.Outside.{File, Start, Rose, no_faults, one_more as next_count}
 use Rattle.rb_hall.specs.declared.fault.Fault.{Fault}
 use Rattle.rb_hall.specs.declared.outcome.Outcome.{Outcome}
 use Rattle.rb_hall.specs.declared.outcome.Outcome.TheVariants as out
 use Rattle.rb_hall.specs.declared.outcome.Refusal.{Refusal}
 use Rattle.rb_hall.specs.Answers.{Scene, HasRead, nothing_yet, one_more, EndedIn, WouldWrite, its_text, its_line, Answers}
 use Rattle.rb_hall.specs.Complete.{AreStored, EndsAs, EndsAsJudged, IsComplete}
-use Rattle.rb_hall.specs.Ending.{EndsBehind, SeenBehind}
+use Rattle.rb_hall.specs.Ending.{SeenBehind}
 use Rattle.rb_hall.specs.Judgement.{Explaining, Judgement, Judging, ReadsOn, RefusedWith, Writes, EndsBy, refused_here, written_here, later, Wants, line_of}
 use Rattle.rb_hall.proofs.Complete.{completed}
-use Rattle.rb_verdict.specs.Judging.{JudgesWithin, EndsWith, TakesWhileWriting}
-use Rattle.rb_verdict.specs.Words.{Command, Request, request_for}
+use Rattle.rb_verdict.specs.Judging.{JudgesWithin, TakesWhileWriting}
+use Rattle.rb_verdict.specs.Words.{Request, request_for}
 use Rattle.rb_commands.specs.Requests.{explains_of}
 use Rattle.rb_commands.specs.declared.why.Why.{Why}
 use Rattle.rb_tell.specs.Entrance.{number_of}
-use Rattle.rb_tell.specs.declared.end.Telling.{Telling}
 use Rattle.rb_show.specs.Wished.{explains_of as view_explains_of}
-use Rattle.rb_memory.specs.Ending.{EndsInMemory, EndsOf, opening}
+use Rattle.rb_memory.specs.Ending.{opening}
 use Rattle.rb_memory.specs.Kept.{FailsWhenFull}
-use Rattle.rb_memory.specs.Laws.{EndsOverTexts, IsCut, IsWhole, TextsDecide, written_for}
-use Rattle.rb_memory.specs.declared.over_texts.Program.{Program}
+use Rattle.rb_memory.specs.Laws.{EndsOverTexts, IsWhole, TextsDecide, written_for}
 use Rattle.rb_memory.specs.declared.over_texts.Program.TheVariants as programs
 
 -- ---- what was to be written where a write failed

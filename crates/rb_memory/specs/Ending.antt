@@ -47,7 +47,8 @@ opening files = record { files = Some files; starts = []; read_faults = no_fault
 
 -- A program over files in memory ends as it does over any shelf and any sinks. No read fails but that of a file that is not there; and what is
 -- written, and what is told, fails only once its place is full.
-pub record EndsInMemory (EndsSo : Ending) (files : List File) (room reason_room : ℕ) (bytes told : List ℕ) (number : ℕ) (telling : Telling) : Type 0 where
+pub record EndsInMemory (EndsSo : Ending) (files : List File) (room reason_room : ℕ) (bytes told : List ℕ) (number : ℕ) (telling : Telling)
+    : Type 0 where
   pub scene : Scene
   pub after : Faults
   pub files_stay : scene.files ≡ Some files

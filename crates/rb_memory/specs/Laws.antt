@@ -36,7 +36,8 @@ pub record IsCut (room : ℕ) (judgement : Judgement) (bytes : List ℕ) (number
 abbrev pub EndsOverTexts : Request → List (List ℕ) → ℕ → List ℕ → ℕ → Type 0
 EndsOverTexts request texts room bytes number =
     (number ≡ 5)
-    ⊎ ((judgement : Judgement) × EndsWith request texts judgement × (IsWhole request.command judgement bytes number ⊎ IsCut room judgement bytes number))
+    ⊎ ((judgement : Judgement) × EndsWith request texts judgement
+    × (IsWhole request.command judgement bytes number ⊎ IsCut room judgement bytes number))
 
 -- Of a program over files in memory: where all the files stand there that its words name, it ends over their texts. So what is written is
 -- never a part that passes for the whole, and where there is room for more than is to be written, it is written whole.

@@ -30,7 +30,7 @@ pub struct Ended {
 
 /// Carries out what the words, each ended by a byte 0, ask a program for. The files that the second word and those behind it name have these texts,
 /// as many as there are; what is written goes to the front of `out`, and what is told to the front of `reason`. The status is that of the program;
-/// 6, with nothing written, where the words are no UTF-8 or the last is not ended; and 5, with nothing written or told, where memory is wanting for the call.
+/// 6 where the words are no UTF-8 or the last is not ended, and 5 where memory is wanting for words, files or places, with nothing written or told.
 pub fn ask(
     alloc: Global,
     program: Program,

@@ -99,8 +99,8 @@ fn carried(
 ) -> Left<Room>
     requires { out.bytes ≡ [] }
     ensures files { shelf.new.files ≡ shelf.old.files }
-    ensures ends { EndsOf program words.now (scene_in shelf.old (quiet out)) (scene_in shelf.new result.sink) (Some told.old.bytes) (Some told.new.bytes)
-        told.old.faults told.new.faults result.number result.told }
+    ensures ends { EndsOf program words.now (scene_in shelf.old (quiet out)) (scene_in shelf.new result.sink)
+        (Some told.old.bytes) (Some told.new.bytes) told.old.faults told.new.faults result.number result.told }
 {
     match program {
         Program::Rbl => rb_tell::hall(alloc, words, shelf, out, told),

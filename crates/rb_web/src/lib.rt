@@ -44,7 +44,8 @@ pub extern "C" fn rbl_ask(
     ended: &mut Ended,
 )
     ensures fits { (ended.new.written ≤ length out.new) × (ended.new.told ≤ length reason.new) }
-    ensures rest { (drop ended.new.written out.new ≡ drop ended.new.written out.old) × (drop ended.new.told reason.new ≡ drop ended.new.told reason.old) }
+    ensures rest { (drop ended.new.written out.new ≡ drop ended.new.written out.old)
+        × (drop ended.new.told reason.new ≡ drop ended.new.told reason.old) }
     ensures ends { CallEnds Rbl words.now (take count (first.now ∷ second.now ∷ third.now ∷ [])) out.new reason.new ended.new }
 {
     let texts = [first, second, third];
@@ -66,7 +67,8 @@ pub extern "C" fn rblview_ask(
     ended: &mut Ended,
 )
     ensures fits { (ended.new.written ≤ length out.new) × (ended.new.told ≤ length reason.new) }
-    ensures rest { (drop ended.new.written out.new ≡ drop ended.new.written out.old) × (drop ended.new.told reason.new ≡ drop ended.new.told reason.old) }
+    ensures rest { (drop ended.new.written out.new ≡ drop ended.new.written out.old)
+        × (drop ended.new.told reason.new ≡ drop ended.new.told reason.old) }
     ensures ends { CallEnds Rblview words.now (take count (first.now ∷ second.now ∷ third.now ∷ [])) out.new reason.new ended.new }
 {
     let texts = [first, second, third];

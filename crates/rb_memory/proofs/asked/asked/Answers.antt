@@ -21,9 +21,9 @@ returns-clause-ends c =
     let front = stands_front c.args.out.now out bytes fits c.put_front.ensures in
     let told_front = stands_front c.args.reason.now reason told told_fits c.put_front-2.ensures in
     carried_out words answer.telling c.in_ok-words.ensures
-    (same_end (EndsOf c.args.program words) answer.telling (stored_files c.in_ok-files.files.items) (named words texts) (length c.args.out.now) (length out)
-    (length c.args.reason.now) (length reason) answer.number c.from.result answer.written.bytes (take (length c.written-2.result.now) out)
-    answer.told.bytes (take (length c.told-2.result.now) reason)
+    (same_end (EndsOf c.args.program words) answer.telling (stored_files c.in_ok-files.files.items) (named words texts)
+    (length c.args.out.now) (length out) (length c.args.reason.now) (length reason) answer.number c.from.result
+    answer.written.bytes (take (length c.written-2.result.now) out) answer.told.bytes (take (length c.told-2.result.now) reason)
     (c.in_ok-files.ensures ∙ ap (λ (ws : List (List ℕ)). named ws texts) c.list.ensures) front.0 told_front.0
     (sym c.number.ensures ∙ sym c.from.ensures)
     (sym c.written.ensures ∙ front.2 ∙ ap (λ (b : List ℕ). take (length b) out) (c.written.ensures ∙ sym c.written-2.ensures))
