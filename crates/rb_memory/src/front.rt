@@ -1,8 +1,10 @@
 //! Bytes at the front of a place.
+ghost use Rattle.std.specs.Prelude.{◌≡◌, ◌≤◌, ◌++◌, length, drop};
 
-/// Puts the bytes at the front of the place, as many as fit, and answers how many. What is behind them stays.
-pub fn put_front(place: &mut [u8], bytes: &[u8]) -> usize {
-    let n = place.len().min(bytes.len());
-    place[..n].copy_from_slice(&bytes[..n]);
-    n
+/// Puts the bytes at the front of the place, which is long enough. What is behind them stays.
+pub fn put_front(place: &mut [u8], bytes: &[u8])
+    requires { length bytes.now ≤ length place.old }
+    ensures { place.new ≡ bytes.now ++ drop (length bytes.now) place.old }
+{
+    place[..bytes.len()].copy_from_slice(bytes);
 }

@@ -3,13 +3,14 @@
 
 pub mod asked;
 pub mod front;
-pub mod in_memory;
+pub mod laws;
 pub mod named;
+pub mod over_texts;
 pub mod room;
 pub mod texts;
 pub mod words;
 
 pub use asked::{Ended, ask};
-pub use in_memory::{Answer, Program, in_memory};
+pub use over_texts::{Answer, Program, in_memory};
 pub use room::Room;
 pub use texts::Texts;

@@ -1,10 +1,10 @@
 //! A sink of so many bytes in memory, whose calls fail only once it is full.
-
 ghost use Rattle.std.specs.Prelude.{◌≡◌, [], Some, IfOk};
 ghost use Rattle.rb_outside.specs.Outside.{no_faults};
 ghost use Rattle.rb_memory.specs.Kept.{FailsWhenFull};
 
-use rb_outside::{Failed, Memory, MemorySink, Sink};
+use rb_base::Memory;
+use rb_outside::{Failed, MemorySink, Sink};
 use rb_tell::Blamed;
 use std::alloc::Global;
 use std::io;
@@ -18,15 +18,14 @@ pub struct Room {
 }
 
 impl Model for Room {
-    ghost use Rattle.std.specs.Prelude.{◌≡◌, ◌≤◌, [], length};
+    ghost use Rattle.std.specs.Prelude.{◌≡◌, []};
     ghost use Rattle.rb_memory.specs.Kept.{FailsWhenFull, KeptBytes};
 
     ghost Value = { KeptBytes };
 
     ghost view = { λ r. record { room = r.room; bytes = r.sink.bytes; faults = r.sink.calls.faults } };
 
-    ghost invariant = { λ r. (r.sink.room ≡ r.room) × (r.sink.calls.failing ≡ []) × (length r.sink.bytes ≤ r.room)
-        × FailsWhenFull r.room r.sink.bytes r.sink.calls.faults };
+    ghost invariant = { λ r. (r.sink.room ≡ r.room) × (r.sink.calls.failing ≡ []) × FailsWhenFull r.room r.sink.bytes r.sink.calls.faults };
 }
 
 impl Room {
@@ -34,15 +33,16 @@ impl Room {
     pub fn new(alloc: Global, room: usize) -> Result<Self, Memory>
         ensures { IfOk result (λ place. place ≡ record { room = room; bytes = []; faults = no_faults }) }
     {
-        Ok(Room {
-            room,
-            sink: MemorySink::new(alloc, room, Vec::new(alloc))?,
-        })
+        match MemorySink::new(alloc, room, Vec::new(alloc)) {
+            Ok(sink) => Ok(Room { room, sink }),
+            Err(_) => Err(Memory),
+        }
     }
 
     /// How many bytes there is room for in all.
     pub fn room(&self) -> usize
-        ensures { result ≡ self.now.room }
+        ensures room { result ≡ self.now.room }
+        ensures full { FailsWhenFull result self.now.bytes self.now.faults }
     {
         self.room
     }

@@ -2,6 +2,7 @@
 
 ghost use Rattle.std.specs.Prelude.{◌≡◌, [], Some, false};
 ghost use Rattle.rb_outside.specs.Started.{stored_files};
+ghost use Rattle.rb_memory.specs.Kept.{no_fault};
 
 use rb_outside::{Failed, MemoryShelf, Shelf};
 use rb_tell::Blamed;
@@ -41,8 +42,7 @@ impl Texts {
 impl Shelf for Texts {
     ghost files = { λ t. Some t.files };
 
-    // no call is a fault
-    ghost faults = { λ t. record { count = 0; failed_last = t.failed_last } };
+    ghost faults = { λ t. no_fault t };
 
     ghost starts = { λ t. t.starts };
 

@@ -1,0 +1,32 @@
+use Rattle.std.proofs.Common.{Option, codes, ap, subst}
+use Rattle.rb_hall.specs.Judgement.{Wants}
+use Rattle.rb_verdict.specs.Judging.{TakesWhileWriting}
+use Rattle.rb_commands.specs.Asked.{asked}
+use Rattle.rb_commands.specs.Requests.{explains_of}
+use Rattle.rb_tell.specs.Telling.{Tells}
+use Rattle.rb_tell.proofs.Files.{has_its_files}
+use Rattle.rb_tell.proofs.Short.{short_end}
+use Rattle.rb_tell.proofs.entrance.carried.Goals as goal
+
+pub returns-clause-ends : goal.returns-clause-ends
+returns-clause-ends g c =
+    let given = c.args.request in
+    let request = asked given in
+    let carried = c.command-carried in
+    let outcome = carried.result.outcome in
+    let told = c.tell-told in
+    record {
+      outcome = outcome;
+      is = c.number_of.ensures;
+      ends = carried.ensures.ends;
+      untouched = λ none. (
+        ap g.F.Shelf.starts (carried.ensures.untouched none),
+        ap g.F.Shelf.faults (carried.ensures.untouched none),
+      );
+      tells = subst
+          (λ (file : Option Wants). Tells (codes "rbl") file outcome (g.E.Sink.written c.args.err.now) (g.E.Sink.written told.new.err)
+          (g.E.Sink.faults c.args.err.now) (g.E.Sink.faults told.new.err) told.result)
+          c.file_in-file.ensures
+          (told.ensures (short_end request (has_its_files given) (explains_of request.command) (TakesWhileWriting request.command) _ _ outcome
+          carried.ensures.ends));
+    }
