@@ -1,6 +1,5 @@
 //! Tests of what takes memory, at its limits, and of files and sinks: words, caches, slots, held lines, the table of conversations,
-//! trials, the parser, the listing of a code that no source has, and both programs over texts in memory. What the programs write is tested by
-//! runs of them (`./test stored_runs`, `./test refusals`).
+//! trials, the parser, and the listing of a code that no source has. What the programs write is tested by runs of them (`./test stored_runs`, `./test refusals`).
 #![tactic(auto)]
 
 #[cfg(test)]
@@ -19,8 +18,6 @@ mod listing_tests;
 mod mail_tests;
 #[cfg(test)]
 mod make_tests;
-#[cfg(test)]
-mod memory_tests;
 #[cfg(test)]
 mod names;
 #[cfg(test)]

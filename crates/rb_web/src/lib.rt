@@ -1,4 +1,5 @@
-//! The commands of both programs over texts in memory, as a page in a browser calls them: the exports alone. What they come to is in `rb_memory`.
+//! The commands of both programs over texts in memory: what each writes, what it tells, and how it ends; and, in this file, the exports by which a page
+//! in a browser calls them, in which nothing is decided.
 //!
 //! # What a caller in C or in JavaScript must keep
 //!
@@ -14,11 +15,21 @@
 //! - After a call that did not return, as on a trap, the instance is not called again.
 #![tactic(auto)]
 
-ghost use Rattle.std.specs.Prelude.{◌≡◌, ◌≤◌, [], ◌∷◌, length, take, drop};
-ghost use Rattle.rb_memory.specs.Called.{CallEnds};
-ghost use Rattle.rb_memory.specs.declared.over_texts.Program.TheVariants.{Rbl, Rblview};
+pub mod asked;
+pub mod front;
+pub mod laws;
+pub mod named;
+pub mod over_texts;
+pub mod room;
+pub mod texts;
+pub mod words;
 
-use rb_memory::{Ended, Program, ask};
+ghost use Rattle.std.specs.Prelude.{◌≡◌, ◌≤◌, [], ◌∷◌, length, take, drop};
+ghost use Rattle.rb_web.specs.Called.{CallEnds};
+ghost use Rattle.rb_web.specs.declared.over_texts.Program.TheVariants.{Rbl, Rblview};
+
+use asked::{Ended, ask};
+use over_texts::Program;
 use std::alloc::Global;
 
 /// Carries out what the words ask `rbl` for over texts in memory.

@@ -1,7 +1,7 @@
 use Rattle.std.proofs.Common.{List, ℕ, [], ◌∷◌, map, take, Bor, ap, ◌∙◌, subst}
-use Rattle.rb_memory.specs.Called.{CallEnds}
-use Rattle.rb_memory.specs.declared.over_texts.Program.TheVariants.{Rbl}
-use Rattle.rb_web.proofs.Texts.{first_of_three}
+use Rattle.rb_web.specs.Called.{CallEnds}
+use Rattle.rb_web.specs.declared.over_texts.Program.TheVariants.{Rbl}
+use Rattle.rb_web.proofs.Three.{first_of_three}
 use Rattle.rb_web.proofs.rbl_ask.Goals as goal
 
 pub returns-clause-ends : goal.returns-clause-ends

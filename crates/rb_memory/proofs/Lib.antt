@@ -1,4 +1,0 @@
-pub mod Parts
-pub mod Pairs
-pub mod Moved
-pub mod Verdicts

@@ -1,5 +1,0 @@
-use Rattle.rb_memory.proofs.Verdicts.{texts_decide as decide}
-use Rattle.rb_memory.proofs.laws.texts_decide.Goals as goal
-
-pub returns : goal.returns
-returns c = decide
