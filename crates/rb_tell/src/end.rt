@@ -43,7 +43,8 @@ pub fn tell<E: Sink>(
     err: &mut E,
 ) -> Telling
     ensures { IsShortEnd outcome.now
-        → Tells program.now (option_map wanted_of file.entry) outcome.now (E.written err.old) (E.written err.new) (E.faults err.old) (E.faults err.new) result }
+        → Tells program.now (option_map wanted_of file.entry) outcome.now (E.written err.old) (E.written err.new)
+        (E.faults err.old) (E.faults err.new) result }
 {
     match outcome {
         Outcome::Refused(refusal) => match file {
