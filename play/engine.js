@@ -1,5 +1,5 @@
-/* Calls the engine's WebAssembly module: the programs `rbl` and `rblview` over texts in memory. A classic script of a page, where it sets `Engine`, and
-   a module for `require` in node. */
+/* Calls the engine's WebAssembly module: the programs `rbl` and `rblview` over texts in memory. A classic script of a page, where it sets
+   `Engine`, and a module for `require` in node. */
 "use strict";
 (() => {
   const FIRST_ROOM = 1 << 20, LARGEST_ROOM = 1 << 30, GROWTH = 16;

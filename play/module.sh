@@ -1,9 +1,9 @@
 #!/bin/bash
 # Makes the engine's WebAssembly module: module.sh [--unproved] OUT [WORD..]
 #
-# It is made of the static library crates/rb_web, which is proved here over the libraries that `rt ci` has proved and left in crates/*/out/rlib; the
-# words go to `rattle build`, as `--jobs 1`. With --unproved it is made of the sources alone, which takes two minutes and proves nothing. The status is
-# 77 where a tool or a library is missing. `module.sh --made` tells what the module would say of itself.
+# It is made of the static library crates/rb_web, which is proved here over the libraries that `rt ci` has proved and left in crates/*/out/rlib;
+# the words go to `rattle build`, as `--jobs 1`. With --unproved it is made of the sources alone, which takes two minutes and proves nothing. The
+# status is 77 where a tool or a library is missing. `module.sh --made` tells what the module would say of itself.
 here=$(dirname "$(dirname "$(readlink -f "${BASH_SOURCE[0]}")")")
 how=proved
 [ "$1" = --unproved ] && { how="not proved, compiled"; shift; }

@@ -12,7 +12,7 @@ const UNREAD = 3, UNWRITTEN = 4;
 const MOST_FILES = 3, MOST_BYTES = 1048576, MOST_OF_IMAGE = 16777216;
 const PAGE = path.join(__dirname, "rbl.html"), MODULE = /<script\b[^>]*\bid="module"[^>]*>([^<]*)</;
 // What the C library says of errors; of others node's words are told.
-const SAID = { E2BIG: "Argument list too long", EACCES: "Permission denied", EAGAIN: "Resource temporarily unavailable", EBADF: "Bad file descriptor",
+const SAID = { EACCES: "Permission denied", EAGAIN: "Resource temporarily unavailable", EBADF: "Bad file descriptor",
   EBUSY: "Device or resource busy", EDQUOT: "Disk quota exceeded", EFBIG: "File too large", EINVAL: "Invalid argument", EIO: "Input/output error",
   EISDIR: "Is a directory", ELOOP: "Too many levels of symbolic links", EMFILE: "Too many open files", ENAMETOOLONG: "File name too long",
   ENFILE: "Too many open files in system", ENODEV: "No such device", ENOENT: "No such file or directory", ENOMEM: "Cannot allocate memory",

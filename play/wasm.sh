@@ -10,7 +10,9 @@ work=$(mktemp -d) || exit 1
 trap 'rm -rf "$work"' EXIT
 cd "$work" || exit 1
 ln -s "$clang" wasm-ld && ln -s "$clang" llvm-objcopy   # the toolchain's clang is these tools too, by their names
-flags="--target=wasm64-unknown-unknown --no-default-config -mcpu=lime1 -O2 -mllvm -expand-div-rem-bits=64 -mllvm -expand-fp-convert-bits=64 -mllvm -trap-unreachable -ffunction-sections -fdata-sections"
+flags="--target=wasm64-unknown-unknown --no-default-config -mcpu=lime1 -O2 -ffunction-sections -fdata-sections"
+# A quotient of 128 bits is worked out in place, and what is never reached is a trap.
+flags+=" -mllvm -expand-div-rem-bits=64 -mllvm -expand-fp-convert-bits=64 -mllvm -trap-unreachable"
 features="--enable-memory64 --enable-bulk-memory --enable-mutable-globals --enable-nontrapping-float-to-int --enable-sign-ext --enable-multivalue"
 printf '%s' "$3" >note
 made() {

@@ -1,7 +1,7 @@
 /* Asks the engine's module one question after another: ask_module.js MODULE QUESTIONS
 
-   QUESTIONS is a file of JSON, a list of {program, words, texts, largest}, the texts as paths. Each answer is a line of JSON: the status, a hash of the output, and
-   the reason, with the processor time in milliseconds and the memory that the engine holds; or a trap. */
+   QUESTIONS is a file of JSON, a list of {program, words, texts, largest}, the texts as paths. Each answer is a line of JSON: the status, a hash
+   of the output, and the reason, with the processor time in milliseconds and the memory that the engine holds; or a trap. */
 "use strict";
 const crypto = require("crypto"), fs = require("fs");
 const Engine = require("../play/engine.js");

@@ -1,7 +1,8 @@
-/* Asks the engine's module where memory is wanting: ask_short.js MODULE PLACES
+/* Asks the engine's module where memory is wanting: ask_short.js MODULE QUESTIONS
 
-   PLACES is a file of JSON, a list of {name, program, words, texts}. Each is asked of modules whose memory may have so many pages and no more, from those
-   that it begins with up to as many as are enough; the answer without a limit is the right one. Each case is a line, `ok NAME` or `not ok NAME -- WHY`. */
+   QUESTIONS is a file of JSON, a list of {name, program, words, texts, mayWrite}. Each is asked of modules whose memory may have so many pages and
+   no more, from those that it begins with up to as many as are enough; the answer without a limit is the right one, and where memory is wanting some
+   may write its front. Each case is a line, `ok NAME` or `not ok NAME -- WHY`. */
 "use strict";
 const fs = require("fs");
 const Engine = require("../play/engine.js");
@@ -31,37 +32,43 @@ function memorySection() {
   throw new Error("the module has no memory");
 }
 
-/** The engine with a memory of at most so many pages. */
-function engineOf({ begin, end, pages }, most) {
+/** The module, with a memory of at most so many pages. */
+function moduleOf({ begin, end, pages }, most) {
   const two = value => [value & 127 | 128, value >> 7];
   const section = Buffer.from([MEMORY_SECTION, 6, 1, 1, ...two(pages), ...two(most)]);
-  return Engine.loadNow(Buffer.concat([bytes.subarray(0, begin), section, bytes.subarray(end)]));
+  return new WebAssembly.Module(Buffer.concat([bytes.subarray(0, begin), section, bytes.subarray(end)]));
 }
 
+const engineOf = wasm => new Engine(new WebAssembly.Instance(wasm, {}));
 const same = (one, other) => one.status === other.status && Buffer.compare(one.out, other.out) === 0;
 const isFront = (one, other) => Buffer.compare(one.out, other.out.subarray(0, one.out.length)) === 0;
 
-/** What is wrong with the answers of a question, or nothing. */
-function wrong({ program, words, texts, mayWrite }) {
-  const whole = Engine.loadNow(bytes).ask(program, words, texts), small = Engine.loadNow(bytes).ask(...SMALL);
-  const section = memorySection();
-  let refused = 0, well = 0;
-  for (let most = section.pages; most < MOST_PAGES; most++) {
-    const engine = engineOf(section, most), mayBeSmall = engineOf(section, most).ask(...SMALL);
-    const answer = engine.ask(program, words, texts);
-    if (same(answer, whole)) return refused > 9 && well > 0 ? null : `enough at once: ${refused}, ${well}`;
-    if (answer.status !== NO_MEMORY || !isFront(answer, whole) || answer.out.length > 0 && !mayWrite) return `status ${answer.status}, ${answer.out.length} bytes at ${most} pages`;
-    if (answer.reason.length > 0) return `tells ${Buffer.from(answer.reason)} at ${most} pages`;
-    const next = engine.ask(...SMALL);
-    if (!same(next, mayBeSmall)) return `the next call gives ${next.status} at ${most} pages, and a first one ${mayBeSmall.status}`;
-    refused++;
-    well += same(next, small);
+/** What is wrong with the answer of an engine with a small memory, or nothing; the question notes how often memory was wanting. */
+function wrong(question, wasm, small) {
+  const { program, words, texts, mayWrite, whole } = question;
+  const engine = engineOf(wasm), answer = engine.ask(program, words, texts);
+  if (same(answer, whole)) {
+    question.isOver = true;
+    return question.refused > 9 ? null : `memory was wanting only ${question.refused} times`;
   }
-  return `${MOST_PAGES} pages are too few`;
+  if (answer.status !== NO_MEMORY || !isFront(answer, whole) || answer.out.length > 0 && !mayWrite) return `status ${answer.status}, ${answer.out.length} bytes`;
+  if (answer.reason.length > 0) return `tells ${Buffer.from(answer.reason)}`;
+  question.refused++;
+  const next = engine.ask(...SMALL);
+  return same(next, small) ? null : `the next call gives ${next.status}, and a first one ${small.status}`;
 }
 
-for (const question of JSON.parse(fs.readFileSync(questions, "utf8"))) {
-  const why = wrong(question);
-  console.log(why ? `not ok ${question.name} -- ${why}` : `ok ${question.name}`);
-  if (why) process.exitCode = 1;
+const section = memorySection(), all = JSON.parse(fs.readFileSync(questions, "utf8"));
+for (const question of all) Object.assign(question, { whole: Engine.loadNow(bytes).ask(question.program, question.words, question.texts), refused: 0 });
+for (let most = section.pages; most <= MOST_PAGES && all.some(question => !question.isOver); most++) {
+  const wasm = moduleOf(section, most), small = engineOf(wasm).ask(...SMALL);
+  for (const question of all.filter(one => !one.isOver)) {
+    question.why = wrong(question, wasm, small);
+    if (question.why) question.isOver = true;
+  }
+}
+for (const { name, why, isOver } of all) {
+  const said = isOver ? why : `${MOST_PAGES} pages are too few`;
+  console.log(said ? `not ok ${name} -- ${said}` : `ok ${name}`);
+  if (said) process.exitCode = 1;
 }

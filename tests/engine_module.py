@@ -46,7 +46,8 @@ def said(script, questions):
     """The lines that a script of tests says to questions of the module."""
     with folder_of({"questions": json.dumps(questions)}) as folder:
         words = ["node", os.path.join(HERE, script), module(), os.path.join(folder, "questions")]
-        return subprocess.run(words, stdin=subprocess.DEVNULL, stdout=subprocess.PIPE, text=True, timeout=4 * PATIENCE, check=False).stdout.splitlines()
+        ran = subprocess.run(words, stdin=subprocess.DEVNULL, stdout=subprocess.PIPE, text=True, timeout=4 * PATIENCE, check=False)
+    return ran.stdout.splitlines()
 
 
 def asked(cases, folder, **more):

@@ -100,11 +100,11 @@ class Module(Cases):
         """Where memory ends too soon, the status is 5, nothing is written or told, and the next call answers as a first one does."""
         source, schedule = text_of("examples/conversation.rbl"), text_of("examples/conversation.schedule")
         both = {"texts": [source, schedule], "program": "rbl"}
-        questions = [{"name": command, "words": [command, "a", "b"], **both} for command in ("run", "survive", "stuck")]
-        questions += [{"name": command, "words": [command, "a"], **both, "texts": [source]} for command in ("code", "compile")]
-        questions += [{"name": "trace", "words": ["trace", "a", "b"], **both, "program": "rblview"},
-                      {"name": "a name that is none", "words": ["check", "a"], "texts": [FILES["source"].replace("x :=", "y :=")], "program": "rbl"},
-                      {"name": "session", "words": ["session", "a", "b", "c"], **both, "texts": [source, schedule, "step 4\nshow buyer\n"], "mayWrite": True}]
+        wrong, session = FILES["source"].replace("x :=", "y :="), "step 4\nshow buyer\n"
+        questions = [{"name": "run", "words": ["run", "a", "b"], **both}, {"name": "trace", "words": ["trace", "a", "b"], **both, "program": "rblview"},
+                     {"name": "compile", "words": ["compile", "a"], **both, "texts": [source]},
+                     {"name": "a name that is none", "words": ["check", "a"], **both, "texts": [wrong]},
+                     {"name": "session", "words": ["session", "a", "b", "c"], **both, "texts": [source, schedule, session], "mayWrite": True}]
         lines = said("ask_short.js", questions)
         self.assertEqual(len(lines), len(questions))
         self.each([CASE.match(line).groups() for line in lines], lambda why: why)

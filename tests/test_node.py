@@ -1,4 +1,6 @@
-"""play/rbl.js, which runs both programs by node, against the programs of this machine: each a process, over files, pipes and what can't be read or written."""
+"""play/rbl.js, which runs both programs by node, against the programs of this machine: each a process, over files, pipes and what can't be read
+or written.
+"""
 import os
 import subprocess
 import unittest
@@ -10,11 +12,12 @@ from .shared import MOST, MOST_OF_IMAGE, PATIENCE, ROOT, VIEWS, Answer, Cases, f
 SCRIPT = os.path.join(ROOT, "play/rbl.js")
 # The files of a long run: two lines of 250 bytes for each of some thousand turns.
 LONG = {"source": f'program w; process p {{ var i; while i < 9000 {{ i := i + 1; print "{"t" * 250}"; }} }} end.\n', "schedule": "p 30000\n"}
-WORDS = [[], [""], ["", ""], ["--help"], ["run"], ["run", "--", "source"], ["run", "source", "schedule", "more"], ["trial", "7"], ["trial", "x"], ["explain", "S1"],
-         ["explain", "Z9"], [b"\xff"], ["check", b"a\xed\xa0\x80"], ["check", "grün"], ["check", "\ufffd"], ["check", ""], ["run", "source", "missing"],
-         ["run", "missing", "schedule"], ["run", "source", "source"], ["check", "folder"], ["run", "source", "folder"], ["check", "source/below"],
-         ["check", "closed"], ["check", "round"], ["check", "n" * 300], ["check", "/dev/zero"], ["load", "/dev/zero", "schedule"], ["check", "long"], ["load", "large", "schedule"],
-         ["page", "missing", "source", "schedule"], ["page", "page", "source", "missing"], ["session", "source", "schedule", "missing"]]
+NO_COMMANDS = [[], [""], ["", ""], ["--help"], ["run"], ["run", "--", "source"], ["run", "source", "schedule", "more"], ["trial", "x"],
+               ["explain", "Z9"], [b"\xff"], ["check", b"a\xed\xa0\x80"]]
+UNREAD = [["check", "grün"], ["check", "\ufffd"], ["check", ""], ["run", "source", "missing"], ["run", "missing", "schedule"], ["check", "folder"],
+          ["run", "source", "folder"], ["check", "source/below"], ["check", "closed"], ["check", "round"], ["check", "n" * 300],
+          ["page", "missing", "source", "schedule"], ["page", "page", "source", "missing"], ["session", "source", "schedule", "missing"]]
+TOO_LONG = [["check", "/dev/zero"], ["load", "/dev/zero", "schedule"], ["check", "long"], ["load", "large", "schedule"]]
 
 
 def by_node(name):
@@ -38,7 +41,8 @@ def unlike(here, there):
     """What is wrong where two answers are not the same, or nothing."""
     if here == there:
         return None
-    return f"status {there.status} for {here.status}, {len(there.out or b'')} bytes for {len(here.out or b'')}, tells {there.err[:200]!r} for {here.err[:200]!r}"
+    bytes_there, bytes_here = (len(one.out or b"") for one in (there, here))
+    return f"status {there.status} for {here.status}, {bytes_there} bytes for {bytes_here}, tells {there.err[:200]!r} for {here.err[:200]!r}"
 
 
 def over_files(words, files):
@@ -79,7 +83,8 @@ class Node(Cases):
     def test_words(self):
         """Each command, words that are no command or no text, and files that are missing, can't be read or are too long."""
         files = {**FILES, "long": "#" * (MOST + 1), "large": bytes(MOST_OF_IMAGE + 1)}
-        self.each([(" ".join(map(str, words))[:60], words, files) for words in WORDS], over_files)
+        self.each([(" ".join(map(str, words))[:60], words, files) for words in [*NO_COMMANDS, *UNREAD, *TOO_LONG, ["run", "source", "source"]]],
+                  over_files)
         self.each(commands(), over_files)
 
     def test_long_outputs(self):
@@ -94,15 +99,15 @@ class Node(Cases):
     def test_pipes(self):
         """A file that comes through a pipe, also one that is too long; what is not needed is not waited for."""
         source = FILES["source"].encode()
-        self.each([("a source", ["check", "/dev/stdin"], source), ("no source", ["check", "/dev/stdin"], b""), ("too long", ["check", "/dev/stdin"], b"#" * (3 * MOST)),
+        self.each([("a source", ["check", "/dev/stdin"], source), ("no source", ["check", "/dev/stdin"], b""),
+                   ("too long", ["check", "/dev/stdin"], b"#" * (3 * MOST)),
                    ("a page", ["page", "/dev/stdin", "examples/step4.rbl", "examples/step4.schedule"], FILES["page"].encode())], through_pipe)
 
     def test_started_wrongly(self):
         """Where the module is missing or is none, or no program is named, the status is 70, with one line on standard error."""
         with folder_of({"none": "no module"}) as folder:
-            cases = [("missing", by_node("rbl"), {"RBL_MODULE": os.path.join(folder, "missing")}), ("none", by_node("rbl"), {"RBL_MODULE": os.path.join(folder, "none")}),
-                     ("no program", ["node", SCRIPT], {})]
-            self.each(cases, cannot_run)
+            modules = [(name, by_node("rbl"), {"RBL_MODULE": os.path.join(folder, name)}) for name in ("missing", "none")]
+            self.each([*modules, ("no program", ["node", SCRIPT], {})], cannot_run)
 
     def test_start(self):
         """How long a small command takes with the start of node."""

@@ -1,9 +1,9 @@
 #!/bin/bash
 # Tells what `./rbl` runs, or `./rblview`: program.sh rbl|rblview [native]
 #
-# It is the proved program, if that was built (`rt run` in its crate builds it) and no source is younger. Else it is the engine's module in the page
-# play/rbl.html, by node, of which play/rbl.js is told, if no source is younger than the page; but not where the program is to be one of this machine.
-# Else it is one that is compiled once, with nothing proved, and kept; it is compiled again where a source is younger. Status 70 where it can't be.
+# It is the proved program, if that was built (`rt run` in its crate builds it) and no source is younger. Else, where the program need not be one
+# of this machine, it is play/rbl.js, which runs the engine's module in the page play/rbl.html by node, if no source is younger than the page. Else
+# it is one that is compiled once, with nothing proved, and kept; it is compiled again where a source is younger. Status 70 where it can't be.
 name=$1
 here=$(dirname "$(dirname "$(readlink -f "${BASH_SOURCE[0]}")")")
 proved=$here/crates/$name/out/$name
