@@ -7,7 +7,7 @@ const cases = require("../view/cases.js"), { Firefox } = require("./marionette.j
 async function main() {
   const page = new Driven(await Firefox.start(process.env.FIREFOX || "firefox-esr"));
   const someLessons = () => trials.lessons(page, ["step3", "sorting", "voting"]);
-  await inTurn(page, [trials.opening, someLessons, trials.editing, trials.faults, trials.files, trials.links, trials.stopping, trials.mishaps]);
+  await inTurn(page, [trials.opening, someLessons, trials.editing, trials.colours, trials.faults, trials.files, trials.links, trials.stopping, trials.mishaps]);
   await page.browser.stop();
   cases.end();
 }

@@ -7,7 +7,7 @@
 "use strict";
 const http = require("http"), fs = require("fs"), path = require("path");
 const { Browser } = require("../view/browser.js"), cases = require("../view/cases.js");
-const { PAGE, OUT, example, addressOf, same } = require("./native.js");
+const { PAGE, OUT, example, addressOf, changedPage, same } = require("./native.js");
 const { Driven, inTurn, wait } = require("./driven.js"), trials = require("./trials.js");
 
 const SHIFT = 8;
@@ -59,6 +59,8 @@ async function oldBrowsers(page) {
     same(`without ${lacks}`, (await page.told("notice")).startsWith(`This browser has no ${lacks}, so it can not run the engine.`), true);
     await page.browser.send("Page.removeScriptToEvaluateOnNewDocument", { identifier });
   }
+  await page.open(addressOf(changedPage("unread", ["async function start() {", "async function start() }"])));
+  same("scripts that are not read", (await page.told("notice")).startsWith("This browser does not read the page's scripts, so it can not run the engine."), true);
 }
 
 // Files that are chosen: a text, one that is none, and one that is too long.
@@ -174,7 +176,7 @@ async function speed(page) {
 async function main() {
   const browser = await Chromium.begin(process.env.CHROMIUM || "chromium"), page = new Driven(browser);
   await browser.size(1400, 900);
-  await inTurn(page, [trials.opening, trials.lessons, trials.editing, trials.faults, trials.files, trials.manyTurns, trials.links, trials.stopping, trials.mishaps]);
+  await inTurn(page, [trials.opening, trials.lessons, trials.editing, trials.colours, trials.faults, trials.files, trials.manyTurns, trials.links, trials.stopping, trials.mishaps]);
   await inTurn(page, [nothingGoesOut, oldBrowsers, chosenFiles, keyboard, looks, fromServer, speed]);
   same("no errors of scripts", browser.errors.filter(error => !/example\.invalid|EvalError/.test(error)).join("; "), "");
   await browser.stop();

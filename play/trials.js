@@ -54,6 +54,26 @@ async function editing(page) {
   same("the chosen turn stays", (await page.frame(`d.getElementById("count").textContent`)), "turn 22 of 62");
   await page.ask(`${Driven.editor("schedule")}.undo()`);
   same("undone", await page.drawn(60), true);
+  await page.type({ schedule: "" });
+  same("no turns at all", await page.drawn(0), true);
+}
+
+// The words are coloured by the grammar of editors/, in each edition.
+async function colours(page) {
+  const styles = async (text, line) => {
+    await page.type({ program: text });
+    return page.ask(`${Driven.editor("program")}.getLineTokens(${line}).filter(part => part.type).map(part => part.string + " " + part.type).join(", ")`);
+  };
+  same("words of recovery", await styles("program a;\nprocess p { ensure x > 10 within 9 by { fail; } } # all\nend.\n", 1),
+    "process declaration, p def, ensure recovery, 10 number, within recovery, 9 number, by recovery, fail control, # all comment");
+  same("a text without an end", await styles('program a;\nprocess p { print "end", "end', 1), 'process declaration, p def, print control, "end" string, "end error');
+  same("names of edition 1", await styles("program a; process p { every := some; }", 0), "program declaration, a def, process declaration, p def");
+  same("words of edition 2", await styles("edition 2; program a;\nprocess p { x := sum i from 1 to 9 : i; }", 1),
+    "process declaration, p def, sum word, from declaration, 1 number, to declaration, 9 number");
+  await page.type({ schedule: "all 3 # p\nbuyer 20" });
+  same("words of a schedule", await page.ask(`[0, 1].map(line => ${Driven.editor("schedule")}.getLineTokens(line).filter(part => part.type).map(part => part.string + " " + part.type).join(", ")).join("; ")`),
+    "all control, 3 number, # p comment; buyer def, 20 number");
+  same("how deep a line stands", await page.ask(`(editor => [0, 1, 2, 3].map(line => editor.getStateAfter(line, true).depth).join())((editor => { editor.setValue("program a; {\\n{ # {\\n\\"{\\"\\n}"); return editor; })(${Driven.editor("program")}))`), "1,2,2,1");
 }
 
 // A fault in a text, and what is told of it.
@@ -177,4 +197,4 @@ async function mishaps(page) {
   same("and the page goes on", await page.tab("stuck"), "ended\n");
 }
 
-module.exports = { opening, lessons, editing, faults, links, stopping, manyTurns, files, mishaps };
+module.exports = { opening, lessons, editing, colours, faults, links, stopping, manyTurns, files, mishaps };

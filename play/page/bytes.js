@@ -1,6 +1,5 @@
 /* Texts and their bytes: the engine takes UTF-8, and counts columns in bytes. */
 const MOST_BYTES = 1048576;
-const lengthInBytes = text => new TextEncoder().encode(text).length;
 const textOfBytes = bytes => new TextDecoder().decode(bytes);
 
 // The text of a file, as it is, its byte order mark too; nothing where it is not UTF-8.
@@ -9,12 +8,4 @@ function textOfFile(bytes) {
 }
 
 // The place in a line of its column, which counts bytes from 1.
-function placeOfColumn(line, column) {
-  let bytes = 1, at = 0;
-  for (const letter of line) {
-    if (bytes >= column) break;
-    bytes += lengthInBytes(letter);
-    at += letter.length;
-  }
-  return at;
-}
+const placeOfColumn = (line, column) => new TextDecoder("utf-8", { ignoreBOM: true }).decode(new TextEncoder().encode(line).subarray(0, column - 1)).length;

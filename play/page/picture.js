@@ -31,7 +31,7 @@ async function fillPicture(tab, run) {
   if (told.status !== 0) return notePicture(picture.run ? "This is the picture of the last run, before the texts were changed." : "There is no run to draw.");
   const turns = turnsOf(textOfBytes(told.out));
   if (turns > MOST_DRAWN) return notePicture(`This run has ${many(turns, "turn")}, and a run of up to ${MOST_DRAWN.toLocaleString("en")} is drawn; the other tabs tell of it.`);
-  const trace = await run.answer("trace", BOTH);
+  const trace = await run.answer("trace", BOTH, "rblview");
   if (run !== current) return;
   if (trace.status !== 0) return notePicture("This run is not drawn.");
   picture.run = run;

@@ -12,8 +12,7 @@ class Run {
     this.texts = given;
     this.answers = new Map();
   }
-  answer(command, takes) {
-    const program = command === "trace" ? "rblview" : "rbl";
+  answer(command, takes, program = "rbl") {
     if (!this.answers.has(command)) this.answers.set(command, ask(program, [command, ...takes], takes.map(name => this.texts[name])));
     return this.answers.get(command);
   }

@@ -49,6 +49,7 @@ async function start() {
   document.documentElement.dataset.ready = "yes";
 }
 
+document.documentElement.dataset.began = "yes";
 if (!LACKS) {
   start().catch(fault => {
     notice(`This page could not begin: ${fault}`);

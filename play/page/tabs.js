@@ -1,4 +1,5 @@
-/* What is shown of a run: a row for each tab. One with a `command` shows what this command of `rbl` prints over the texts that it `takes`. */
+/* What is shown of a run: a row for each tab. One with a `command` shows what this command of `rbl` prints over the texts that it `takes`; a row
+   can name another `program`. */
 const BOTH = ["program", "schedule"];
 const TABS = [
   { id: "picture", title: "Picture", fill: fillPicture },
@@ -23,7 +24,7 @@ function shortened(text) {
 async function fillText(tab, run) {
   const panel = element(`panel-${tab.id}`), text = panel.querySelector("pre");
   panel.classList.add("old");
-  const told = await run.answer(tab.command, tab.takes);
+  const told = await run.answer(tab.command, tab.takes, tab.program);
   if (run !== current) return;
   const isPrinted = Boolean(told.out && (told.status === 0 || told.out.length));
   text.textContent = isPrinted ? shortened(textOfBytes(told.out)) : outcomeInWords(told, null);
