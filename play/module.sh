@@ -41,7 +41,8 @@ unproved() {
     for crate in "$here"/crates/*; do
         mkdir -p "$copy/${crate#"$here"/}" && ln -s "$crate"/[!o]* "$copy/${crate#"$here"/}/"
     done
-    rm "$copy/crates/rb_web/src" && mkdir "$copy/crates/rb_web/src"
+    rm "$copy/crates/rb_web/src" && mkdir "$copy/crates/rb_web/src" && ln -s "$here"/crates/rb_web/src/* "$copy/crates/rb_web/src/"
+    rm "$copy/crates/rb_web/src/lib.rt"
     sed 's/^rb_web staticlib:/rb_web:/' "$here/crates.txt" >"$copy/crates.txt"
     cat "$here/crates/rb_web/src/lib.rt" - >"$copy/crates/rb_web/src/main.rt" <<'END_OF_MAIN'
 

@@ -1,4 +1,4 @@
-"""Tests that are written in JavaScript (view/test_*.js): each of their cases is a line, `ok NAME` or `not ok NAME -- WHY`."""
+"""Tests that are written in JavaScript (view/test_*.js, play/test_*.js): each of their cases is a line, `ok NAME` or `not ok NAME -- WHY`."""
 import os
 import re
 import shutil
@@ -8,12 +8,13 @@ from .shared import PATIENCE, ROOT, Cases, program, tell
 
 HAS_NODE = shutil.which("node") is not None
 CHROMIUM = os.environ.get("CHROMIUM") or next(filter(None, map(shutil.which, ("chromium", "chromium-browser", "google-chrome"))), None)
+FIREFOX = os.environ.get("FIREFOX") or next(filter(None, map(shutil.which, ("firefox-esr", "firefox"))), None)
 CASE = re.compile(r"^(?:not )?ok (.*?)(?: -- (.*))?$")
 
 
 def ran(words):
     """What a script says, and its exit status."""
-    named = {"RBL": program("rbl"), "RBLVIEW": program("rblview"), "CHROMIUM": CHROMIUM or ""}
+    named = {"RBL": program("rbl"), "RBLVIEW": program("rblview"), "CHROMIUM": CHROMIUM or "", "FIREFOX": FIREFOX or ""}
     return subprocess.run(["node", *words], cwd=ROOT, env={**os.environ, **named}, stdin=subprocess.DEVNULL, stdout=subprocess.PIPE, stderr=subprocess.STDOUT,
                           text=True, timeout=2 * PATIENCE, check=False)
 

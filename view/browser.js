@@ -6,7 +6,7 @@ const CODES = { Tab: 9, ArrowLeft: 37, ArrowUp: 38, ArrowRight: 39, ArrowDown: 4
 
 class Browser {
   static async start(program) {
-    const browser = new Browser(program);
+    const browser = new this(program);
     const { targetId } = await browser.send("Target.createTarget", { url: "about:blank" });
     browser.session = (await browser.send("Target.attachToTarget", { targetId, flatten: true })).sessionId;
     await browser.send("Page.enable");
@@ -23,12 +23,14 @@ class Browser {
     const answers = (this.rest + data).split("\0");
     this.rest = answers.pop();
     for (const answer of answers.map(text => JSON.parse(text))) {
-      if (answer.method === "Runtime.exceptionThrown") this.errors.push(answer.params.exceptionDetails.exception.description);
+      if (answer.method) this.hear(answer);
       if (!this.asked.has(answer.id)) continue;
       this.asked.get(answer.id)(answer.result || {});
       this.asked.delete(answer.id);
     }
   }
+  // What the browser tells without having been asked.
+  hear({ method, params }) { if (method === "Runtime.exceptionThrown") this.errors.push(params.exceptionDetails.exception.description); }
   send(method, params = {}) {
     return new Promise(resolve => {
       this.asked.set(this.next, resolve);

@@ -73,7 +73,7 @@ const HEAD = {
     run.numberOf.channel.set(w[1], run.channels.length);
     run.channels.push({
       name: w[1], number: run.channels.length, ...ends,
-      numbers: new History({ sent: 0, taken: 0, seen: 0, free: ends.size }), open: new History([]), receipts: [],
+      numbers: new History({ sent: 0, taken: 0, seen: 0, free: ends.size }), messages: [], open: [], receipts: [],
     });
   },
   conversation(run, w) {
@@ -142,7 +142,8 @@ const TURN = {
     const channel = run.channels[run.numberOf.channel.get(w[2])];
     const message = { id: run.messages.length, channel: channel.number, number: +w[3], value: w[4], sent: turn.number, back: 0, receipts: [] };
     run.messages.push(message);
-    channel.open.set(turn.number, channel.open.last().concat(message));
+    channel.messages.push(message);
+    channel.open.push(message);
     turn.message = message;
   },
   conversation(run, turn, w) {
@@ -163,13 +164,11 @@ function endHeld(held, turn) {
 }
 
 function takeBack(channel, sent, turn) {
-  const open = channel.open.last();
-  for (const message of open.slice(sent)) message.back = turn.number;
-  channel.open.set(turn.number, open.slice(0, sent));
+  for (const message of channel.open.splice(sent)) message.back = turn.number;
 }
 
 function receive(run, channel, taken, turn) {
-  const message = channel.open.last()[taken - 1];
+  const message = channel.open[taken - 1];
   const receipt = { id: run.receipts.length, message, channel: channel.number, sent: message.sent, taken: turn.number, back: 0 };
   run.receipts.push(receipt);
   channel.receipts.push(receipt);
@@ -296,6 +295,9 @@ function readTrace(text) {
 // Whether turn u was undone by turn t.
 const isUndone = (run, u, t) => run.undoneIn[u] !== undefined && run.undoneIn[u] <= t;
 
+// The messages of a channel that are sent at t, and not taken back; at the end of the run they are its `open`.
+const openAt = (channel, t) => channel.messages.filter(({ sent, back }) => sent <= t && !(back && back <= t));
+
 // The turns that stand at t: those that took something, and were not undone.
 function survivors(run, t) {
   const found = [];
@@ -351,6 +353,6 @@ function takenForGood(run, channel, t) {
   return numbers.sent - (channel.size - numbers.free);
 }
 
-const Model = { History, readTrace, isUndone, survivors, record, printed, endingAt, valuesAt, insideAt, atLineAt, takenForGood };
+const Model = { History, readTrace, isUndone, survivors, record, printed, endingAt, valuesAt, insideAt, atLineAt, openAt, takenForGood };
 if (typeof module !== "undefined" && module.exports) module.exports = Model; else root.Model = Model;
 })(globalThis);

@@ -16,6 +16,9 @@ const BLINDNESS = {
 const PAPER = ["back", "panel", "field0", "field1", "field2", "gone0"];
 const TEXTS = ["ink", "soft", "bad", "good", "point"];
 const SHAPES = ["took", "message", "grey", "amber"];
+// What the words of a program may be coloured with in the playground's editor, and lie on.
+const WORDS = ["ink", "soft", "took", "point", "amber", "good", "bad"];
+const EDITOR = ["back", "field0", "field1"];
 const APART = [["took", "bad"], ["took", "good"], ["bad", "good"], ["point", "bad"], ["point", "good"], ["point", "took"], ["took", "dead"], ["bad", "dead"], ["good", "dead"],
   ["field0", "gone0"], ["field0", "field1"], ["gone0", "back"], ["field0", "back"]];
 
@@ -40,6 +43,7 @@ for (const [theme, palette] of Object.entries(PALETTES)) {
     for (const text of TEXTS) atLeast(`${theme}: ${text} on ${paper}`, contrast(palette[text], palette[paper]), 4.5);
     for (const shape of SHAPES) atLeast(`${theme}: ${shape} on ${paper}`, contrast(palette[shape], palette[paper]), 3);
   }
+  for (const paper of EDITOR) for (const word of WORDS) atLeast(`${theme}: ${word} on ${paper} in the editor`, contrast(palette[word], palette[paper]), 4.5);
   for (const [one, other] of APART) {
     const least = /field|gone/.test(one) ? 4 : 15;
     for (const blindness of Object.keys(BLINDNESS)) atLeast(`${theme}: ${one} and ${other}, blindness ${blindness}`, distance(palette[one], palette[other], blindness), least);

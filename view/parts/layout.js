@@ -21,9 +21,18 @@ function layRails() {
   }
   return rows.map(list => list.length);
 }
-const RAILS = layRails();
-const SENDS = run.processes.map((_, p) => run.channels.some(c => c.from === p && c.to > p));
-const PRINTS = run.processes.map((_, p) => run.held.some(h => h.process === p) || run.outs.some(o => o.process === p));
+
+// What lanes need of the whole run: their rails, room for messages and for lines, and how much the texts behind the last turns need.
+let RAILS = [], SENDS = [], PRINTS = [], TEXT_ROOM = 0, TAIL = 0;
+
+function measureRun() {
+  RAILS = layRails();
+  SENDS = run.processes.map((_, p) => run.channels.some(c => c.from === p && c.to > p));
+  PRINTS = run.processes.map((_, p) => run.held.some(h => h.process === p) || run.outs.some(o => o.process === p));
+  TEXT_ROOM = Math.min(190, Math.max(46, ...run.outs.filter(o => o.turn >= LAST - 3).map(o => 16 + o.text.length * 6.6),
+    ...run.processes.filter(p => p.failedIn >= LAST - 3).map(() => 90)));
+  TAIL = END > LAST ? 74 : 0;
+}
 
 // Whether two processes have to do with each other: a conversation or a channel joins them.
 const areJoined = (p, q) => p === q || run.conversations.some(c => c.members.includes(p) && c.members.includes(q)) ||
@@ -50,11 +59,7 @@ function layLanes(dense) {
   });
 }
 
-// How much the texts behind the last turns need.
-const TEXT_ROOM = Math.min(190, Math.max(46, ...run.outs.filter(o => o.turn >= LAST - 3).map(o => 16 + o.text.length * 6.6),
-  ...run.processes.filter(p => p.failedIn >= LAST - 3).map(() => 90)));
 const roomBehind = width => width > 11 ? TEXT_ROOM : 12;
-const TAIL = END > LAST ? 74 : 0;
 
 // Of a long run the picture shows a window, which follows the chosen turn.
 function moveWindow() {

@@ -40,3 +40,13 @@ text{font:11px system-ui,"Segoe UI",Arial,sans-serif;fill:var(--ink)}
 .finish{stroke:var(--ink);stroke-width:3} .failed{fill:var(--bad);font-weight:650}
 .now{stroke:var(--ink);stroke-width:1.2} .nowbox{fill:var(--ink)} .nowtext{fill:var(--back);font-weight:650;text-anchor:middle;font-size:10.5px}
 .nowcolumn{fill:var(--changed);fill-opacity:.6;pointer-events:none} .tail{fill:var(--panel)}`;
+
+// The colours of both themes, and the style of what is drawn: put into the page, which has a theme.
+function addStyle() {
+  const colours = Object.entries(PALETTES).map(([theme, palette]) => `[data-theme=${theme}]{${Object.entries(palette).map(([name, colour]) => `--${name}:${colour}`).join(";")}}`);
+  const paper = `@media print{html[data-theme]{${Object.entries(PALETTES.light).map(([name, colour]) => `--${name}:${colour}`).join(";")}}}`;
+  const drawn = PICTURE_STYLE.replace(/([^{}]+)(\{[^}]*\})/g, (_, names, rest) => names.split(",").map(name => `.drawn ${name.trim()}`).join(",") + rest);
+  const style = document.createElement("style");
+  style.textContent = [...colours, paper, drawn].join("\n");
+  document.head.appendChild(style);
+}

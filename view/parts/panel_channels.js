@@ -12,7 +12,7 @@ function cell(message, k, taken, forGood, seen) {
 
 function channelBox(channel, t) {
   const { sent, taken, seen, free } = channel.numbers.at(t), forGood = Model.takenForGood(run, channel, t), first = Math.max(0, taken - MOST_TAKEN);
-  const cells = channel.open.at(t).slice(first).map((message, k) => cell(message, first + k, taken, forGood, seen));
+  const cells = Model.openAt(channel, t).slice(first).map((message, k) => cell(message, first + k, taken, forGood, seen));
   const room = Array.from({ length: Math.min(free, MOST_FREE) }, () => `<span class="cell free" title="room"></span>`);
   return `<div class="box${isOwn(channel) ? "" : " far"}"><p><b>${escaped(channel.name)}</b> ${escaped(nameOf(channel.from))} → ${escaped(nameOf(channel.to))} ` +
     `<span class="note">sent ${sent}, taken ${taken}, room ${free} of ${channel.size}</span></p><p class="cells">${first ? "… " : ""}${cells.join("")}${room.join("")}${free > MOST_FREE ? " …" : ""}</p></div>`;

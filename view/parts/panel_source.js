@@ -1,6 +1,12 @@
 /* The source: with the open blocks of the shown process, the alternates that run, and the statement of the turn where the trace tells its place. */
-const BLOCKS = blocksOfSource(SOURCE_LINES);
-const ROWS = SOURCE_LINES.map(() => element("sourcetext").appendChild(document.createElement("div")));
+let BLOCKS = [], ROWS = [];
+
+// A page around this one shows the source itself, and then there are no rows.
+function layRows() {
+  BLOCKS = blocksOfSource(SOURCE_LINES);
+  element("sourcetext").textContent = "";
+  ROWS = document.documentElement.dataset.within ? [] : SOURCE_LINES.map(() => element("sourcetext").appendChild(document.createElement("div")));
+}
 
 // What is marked on each line: pieces [from, to, class], and a bar for each alternate that runs there.
 function sourceMarks(t) {
@@ -79,15 +85,19 @@ function lineAsMarkup(text, pieces) {
   }).join("");
 }
 
+// Where the statement of the chosen turn stands: its pieces.
+const placesIn = marks => marks.flatMap(({ pieces }, line) => pieces.filter(([, , name]) => name.startsWith("place")).map(([from, to, name]) => ({ line, from, to, name })));
+
 // Shows the source at the chosen turn, and answers what brings the line into sight.
 function showSource() {
   const t = Math.min(state.turn, LAST), marks = sourceMarks(t), place = markPlace(marks, state.turn);
-  SOURCE_LINES.forEach((text, line) => {
-    const { pieces, bars } = marks[line], sign = `${bars}|${line === place}|${pieces.join(";")}`, row = ROWS[line];
+  state.tell(placesIn(marks));
+  ROWS.forEach((row, line) => {
+    const { pieces, bars } = marks[line], sign = `${bars}|${line === place}|${pieces.join(";")}`;
     if (row.sign === sign) return;
     row.sign = sign;
     row.className = line === place ? "row here" : "row";
-    row.innerHTML = `<b>${line + 1}</b><u>${bars}</u><code>${lineAsMarkup(text, pieces) || " "}</code>`;
+    row.innerHTML = `<b>${line + 1}</b><u>${bars}</u><code>${lineAsMarkup(SOURCE_LINES[line], pieces) || " "}</code>`;
   });
   const levels = run.processes.length ? run.processes[state.process].levels.at(t) : [];
   const open = levels.length ? BLOCKS[levels[levels.length - 1].block] : null;

@@ -5,16 +5,6 @@ function setTheme(theme) {
   element("theme").value = theme;
 }
 
-// The colours of both themes, and the style of what is drawn.
-function addStyle() {
-  const colours = Object.entries(PALETTES).map(([theme, palette]) => `[data-theme=${theme}]{${Object.entries(palette).map(([name, colour]) => `--${name}:${colour}`).join(";")}}`);
-  const paper = `@media print{html[data-theme]{${Object.entries(PALETTES.light).map(([name, colour]) => `--${name}:${colour}`).join(";")}}}`;
-  const drawn = PICTURE_STYLE.replace(/([^{}]+)(\{[^}]*\})/g, (_, names, rest) => names.split(",").map(name => `.drawn ${name.trim()}`).join(",") + rest);
-  const style = document.createElement("style");
-  style.textContent = [...colours, paper, drawn].join("\n");
-  document.head.appendChild(style);
-}
-
 // What an address asks for.
 function readAddress() {
   for (const part of location.hash.slice(1).split("&")) {
@@ -43,28 +33,66 @@ function setSize() {
   element("picture").style.height = `${Math.min(layout.high * view.scale + 18, tall)}px`;
 }
 
-function start() {
+// What is there for all runs that the page shows.
+function listen() {
+  addStyle();
+  matchMedia("(prefers-color-scheme: dark)").addEventListener("change", () => setTheme(state.theme));
+  listenToKeys();
+  listenToButtons();
+  listenToMouse();
+  listenToPrinting();
+}
+
+// Takes a run, in place of the one that was there: the end stays chosen, and so does a turn that is there again.
+function take(source, schedule, trace) {
+  const isAtEnd = !run || state.turn === END, who = run && !state.follow ? nameOf(state.process) : "";
+  readRun(source, schedule, trace);
+  measureRun();
+  layRows();
+  const process = run.numberOf.process.get(who);
+  Object.assign(state, { turn: isAtEnd ? END : Math.min(state.turn, END), process: process || 0, follow: process === undefined, first: 1 });
+}
+
+function showRun() {
   document.title = `${TITLE}: a run`;
   element("title").textContent = TITLE;
   element("slider").max = END;
   element("who").innerHTML = `<option value="-1">whose turn it is</option>` + run.processes.map(p => `<option value="${p.number}">${escaped(p.name)}</option>`).join("");
   element("schedule-text").textContent = SCHEDULE.trim();
   element("drawing").setAttribute("aria-label", `${summary(END)}. The arrow keys step through it.`);
-  addStyle();
-  readAddress();
-  setTheme(state.theme);
-  matchMedia("(prefers-color-scheme: dark)").addEventListener("change", () => setTheme(state.theme));
+  element("wordlist").textContent = "";
+  showWords();
   drawStrip();
   moveWindow();
   setSize();
-  listenToKeys();
-  listenToButtons();
-  listenToMouse();
-  listenToPrinting();
   measure();
   show();
 }
 
-if (run.processes.length) start();
-else element("says").textContent = "This page has no trace: it is made by `rblview page`.";
+// A page around this one tells its runs: a source, a schedule, a trace, and the theme. It shows the source itself, and is told where in it a turn is.
+function listenToPage() {
+  let isListening = false;
+  addEventListener("message", ({ source, data }) => {
+    if (source !== parent || parent === window) return;
+    setTheme(PALETTES[data.theme] ? data.theme : "");
+    if (data.trace === undefined) return;
+    document.documentElement.dataset.within = "yes";
+    state.tell = places => source.postMessage({ places }, "*");
+    take(data.source, data.schedule, data.trace);
+    if (!isListening) listen();
+    isListening = true;
+    showRun();
+  });
+}
+
+take(textOf("source"), textOf("schedule"), textOf("trace"));
+if (run.processes.length) {
+  listen();
+  readAddress();
+  setTheme(state.theme);
+  showRun();
+} else {
+  element("says").textContent = "This page has no trace: it is made by `rblview page`.";
+  listenToPage();
+}
 document.documentElement.dataset.ready = "yes";

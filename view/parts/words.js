@@ -46,8 +46,12 @@ function testWords(turn, p) {
 }
 
 // The words of the source, looked for once.
-let theWords = null;
-const wordsOfTheSource = () => theWords || (theWords = wordsOfSource(SOURCE_LINES));
+let theWords = { of: null, words: [] };
+
+function wordsOfTheSource() {
+  if (theWords.of !== SOURCE_LINES) theWords = { of: SOURCE_LINES, words: wordsOfSource(SOURCE_LINES) };
+  return theWords.words;
+}
 
 function stepWords(turn, p) {
   if (isTest(turn)) return testWords(turn, p);

@@ -1,0 +1,15 @@
+/* On paper: the texts, how the run came out, and what is shown of it; the picture stands in strips, as the picture's page prints it. */
+function stripsOfPicture() {
+  const inside = picture.frame.contentWindow, paper = inside && inside.document.getElementById("paper");
+  if (!paper || !picture.run) return [];
+  inside.dispatchEvent(new Event("beforeprint"));
+  return [...paper.querySelectorAll(".strip")].map(strip => document.importNode(strip, true));
+}
+
+function layPaper() {
+  const paper = element("paper"), { program, schedule } = texts(), shown = element(`panel-${tabs.chosen.id}`).querySelector("pre");
+  paper.replaceChildren(
+    made("h1", {}, nameOfProgram()), made("pre", {}, program), made("h2", {}, "Schedule"), made("pre", {}, schedule),
+    made("h2", {}, "The run"), made("p", {}, element("outcome").textContent), ...(fault.now ? [made("pre", {}, fault.now.reason)] : []),
+    ...(shown ? [made("pre", {}, shown.textContent)] : stripsOfPicture()));
+}

@@ -1,0 +1,58 @@
+/* The page begins. */
+function listen() {
+  const does = {
+    run: runNow, stop, link: showLink, linkcopy: copyLink, linkclose: () => { element("linkbox").hidden = true; element("link").focus(); }, whole: downloadWhole,
+    programopen: () => chooseFile("program"), programsave: () => saveFile("program"), scheduleopen: () => chooseFile("schedule"), schedulesave: () => saveFile("schedule"),
+    faultplace: () => { if (fault.now && fault.now.line) goTo(fault.now); },
+  };
+  for (const [id, act] of Object.entries(does)) element(id).addEventListener("click", () => act());
+  element("theme").value = theme.chosen;
+  element("theme").addEventListener("change", event => { keep("theme", event.target.value); setTheme(event.target.value); });
+  addEventListener("hashchange", async () => { if (location.hash.length > 1 && await followAddress()) runNow(); });
+  addEventListener("beforeprint", layPaper);
+  addEventListener("keydown", event => {
+    if (event.key === "Escape" && !element("stop").hidden) stop();
+    if (event.key === "Escape") element("help").open = false;
+  });
+  listenToDrops();
+}
+
+function textsKept() {
+  try {
+    const { program, schedule } = JSON.parse(kept("texts"));
+    return typeof program === "string" && typeof schedule === "string" ? { program, schedule } : null;
+  } catch (none) { return null; }
+}
+
+// The editor is a script of its own, which the page's policy knows.
+function addScript(text) {
+  const script = document.createElement("script");
+  script.textContent = text;
+  document.head.append(script);
+}
+
+async function start() {
+  thread = new Thread(element("worker").textContent, element("module").textContent);
+  thread.begin();
+  const [editor, view, lessons] = await Promise.all(["editor", "view", "lessons"].map(id => unpacked(element(id).textContent)));
+  picture.page = view;
+  makeTabs();
+  makePicture(textOfBytes(view));
+  addScript(textOfBytes(editor));
+  const grammars = JSON.parse(element("grammars").textContent);
+  makeEditor("program", "the program", grammars.program);
+  makeEditor("schedule", "the schedule", grammars.schedule);
+  makeLessons(JSON.parse(textOfBytes(lessons)));
+  listen();
+  if (!await followAddress()) putTexts(textsKept() || LESSONS.find(one => one.name === FIRST));
+  await runNow();
+  document.documentElement.dataset.ready = "yes";
+}
+
+document.documentElement.dataset.began = "yes";
+if (!LACKS) {
+  start().catch(fault => {
+    notice(`This page could not begin: ${fault}`);
+    document.documentElement.dataset.ready = "no";
+  });
+}

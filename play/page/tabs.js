@@ -1,0 +1,73 @@
+/* What is shown of a run: a row for each tab. One with a `command` shows what this command of `rbl` prints over the texts that it `takes`; a row
+   can name another `program`. */
+const BOTH = ["program", "schedule"];
+const TABS = [
+  { id: "picture", title: "Picture", fill: fillPicture },
+  { id: "printed", title: "What it prints", command: "run", takes: BOTH, says: "The lines of the run, each behind the number of its turn, and how it ends." },
+  { id: "survivors", title: "Survivors", command: "survive", takes: BOTH, says: "The turns that stood, as a record: what was undone has left no trace." },
+  { id: "stuck", title: "Stuck?", command: "stuck", takes: BOTH, says: "Whether anything can still go on after the turns of the schedule." },
+  { id: "listing", title: "Listing", command: "code", takes: ["program"], says: "The instructions that the program is compiled to." },
+];
+// Of a longer text its first and its last lines are shown.
+const MOST_LINES = 2000;
+
+const tabs = { chosen: TABS[0] };
+
+function shortened(text) {
+  const lines = text.split("\n");
+  if (lines.length <= MOST_LINES) return text;
+  const left = lines.length - MOST_LINES;
+  return [...lines.slice(0, MOST_LINES / 2), `… ${many(left, "line")} left out …`, ...lines.slice(-MOST_LINES / 2)].join("\n");
+}
+
+// What a command printed; while it is on its way, and after a stop, what stood there before is dim.
+async function fillText(tab, run) {
+  const panel = element(`panel-${tab.id}`), text = panel.querySelector("pre");
+  panel.classList.add("old");
+  const told = await run.answer(tab.command, tab.takes, tab.program);
+  if (run !== current) return;
+  const isPrinted = Boolean(told.out && (told.status === 0 || told.out.length));
+  text.textContent = isPrinted ? shortened(textOfBytes(told.out)) : outcomeInWords(told, null);
+  panel.querySelector("button").onclick = () => download(`${nameOfProgram()}.${tab.command}`, "text/plain", told.out);
+  panel.querySelector("button").hidden = !isPrinted;
+  panel.classList.remove("old");
+}
+
+async function fillTab(run) {
+  setSettled(false);
+  await (tabs.chosen.fill || fillText)(tabs.chosen, run);
+  if (run === current) setSettled(true);
+}
+
+function chooseTab(tab) {
+  tabs.chosen = tab;
+  for (const { id } of TABS) {
+    const isChosen = id === tab.id;
+    element(`tab-${id}`).setAttribute("aria-selected", isChosen);
+    element(`tab-${id}`).tabIndex = isChosen ? 0 : -1;
+    element(`panel-${id}`).hidden = !isChosen;
+  }
+  if (current) fillTab(current);
+}
+
+const KEYS_OF_TABS = { ArrowLeft: at => at - 1, ArrowRight: at => at + 1, Home: () => 0, End: () => TABS.length - 1 };
+
+function makeTabs() {
+  for (const tab of TABS) {
+    const button = made("button", { role: "tab", id: `tab-${tab.id}`, "aria-controls": `panel-${tab.id}` }, tab.title);
+    button.addEventListener("click", () => chooseTab(tab));
+    element("tabs").append(button);
+    const panel = made("div", { role: "tabpanel", id: `panel-${tab.id}`, "aria-labelledby": `tab-${tab.id}` });
+    element("panels").append(panel);
+    if (tab.fill) continue;
+    panel.append(made("p", { class: "note" }, tab.says), made("pre", { tabindex: 0, role: "group", "aria-label": tab.title }), made("button", {}, "Save"));
+  }
+  element("tabs").addEventListener("keydown", event => {
+    if (!Object.hasOwn(KEYS_OF_TABS, event.key)) return;
+    event.preventDefault();
+    const tab = TABS.at(KEYS_OF_TABS[event.key](TABS.indexOf(tabs.chosen)) % TABS.length);
+    chooseTab(tab);
+    element(`tab-${tab.id}`).focus();
+  });
+  chooseTab(TABS[0]);
+}
