@@ -104,6 +104,6 @@ function main() {
 try {
   process.exitCode = main();
 } catch (error) {
-  process.stderr.write(`${process.argv[2]}: ${error.message}\n`);
+  process.stderr.write(`${process.argv[2] || "rbl.js"}: ${error.message}\n`);
   process.exitCode = CANNOT_RUN;
 }
