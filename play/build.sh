@@ -11,18 +11,21 @@ case $1 in --unproved | --check) kind=$1; shift ;; esac
 work=$(mktemp -d) || exit 1
 trap 'rm -rf "$work"' EXIT
 
-# By what the module in a page was made.
-made() { sed -n 's/.*\bid="module"[^>]*>\([^<]*\)<.*/\1/p' "$1" | base64 -d | gzip -dc | grep -aoE '(not )?proved(, compiled)? by [ -~]*$'; }
+# The module in a page, and by what it was made.
+module_in() { sed -n 's/.*\bid="module"[^>]*>\([^<]*\)<.*/\1/p' "$1" | base64 -d | gzip -dc; }
+made() { module_in "$1" | grep -aoE '(not )?proved(, compiled)? by [ -~]*$'; }
 
 if [ "$kind" = --check ]; then
     here_made=$("$here/module.sh" --made) || exit 77
     [ "$(made "$page")" = "$here_made" ] || { echo "play/rbl.html is $(made "$page"); here it would be $here_made: not compared" >&2; exit 77; }
 fi
 "$here/module.sh" $([ "$kind" != --unproved ] || echo --unproved) "$work/engine.wasm" "$@" || exit
-python3 -B "$here/join.py" "$work/engine.wasm" "$work/rbl.html" || exit 1
 if [ "$kind" != --check ]; then
-    cp "$work/rbl.html" "$page"
-elif ! cmp "$work/rbl.html" "$page" >&2; then
-    echo "play/rbl.html is not what play/build.sh makes of these sources" >&2
-    exit 1
+    python3 -B "$here/join.py" "$work/engine.wasm" "$page"
+    exit
 fi
+# Compressors differ, and what they pack does not: so the module is compared, and all else by join.py.
+module_in "$page" >"$work/module.wasm"
+cmp "$work/engine.wasm" "$work/module.wasm" >&2 && python3 -B "$here/join.py" --check "$page" && exit
+echo "play/rbl.html is not what play/build.sh makes of these sources" >&2
+exit 1

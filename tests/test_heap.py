@@ -6,7 +6,7 @@ import subprocess
 import tempfile
 import unittest
 
-from .shared import HERE, ROOT, Cases, tell
+from .shared import HERE, ROOT, Cases, tell, write
 
 CHECKED = ["-std=gnu11", "-O1", "-g", "-Wall", "-Wextra", "-Werror", "-fsanitize=address,undefined", "-fno-sanitize-recover=all"]
 NAMES = ["-D__multi3=wide_times", "-D__ashlti3=wide_left", "-D__lshrti3=wide_right"]
@@ -23,14 +23,25 @@ def compiled(compiler, folder):
     return made
 
 
+def has_sanitizers(compiler):
+    """Whether a compiler of this machine can check accesses and sums: its libraries for it may be missing."""
+    if not shutil.which(compiler):
+        return False
+    with tempfile.TemporaryDirectory() as folder:
+        source = os.path.join(folder, "nothing.c")
+        write(source, "int main(void) { return 0; }\n")
+        ran = subprocess.run([compiler, *CHECKED, "-o", os.path.join(folder, "nothing"), source], capture_output=True, check=False)
+        return ran.returncode == 0
+
+
 class Heap(Cases):
     PROGRAMS = ()
 
     def test_heap(self):
         """Blocks keep their bytes and lie where they may, and where memory is wanting nothing is lost."""
-        compilers = [name for name in ("gcc", "clang") if shutil.which(name)]
+        compilers = [name for name in ("gcc", "clang") if has_sanitizers(name)]
         if not compilers:
-            raise unittest.SkipTest("there is no gcc and no clang")
+            raise unittest.SkipTest("there is no gcc and no clang with sanitizers")
         for compiler in compilers:
             with tempfile.TemporaryDirectory() as folder:
                 program = compiled(compiler, folder)
