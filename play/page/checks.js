@@ -10,6 +10,8 @@ var LACKS = (function () {
   }
   for (var k = 0; k < wanted.length; k++) if (typeof window[wanted[k]] === "undefined") lacks.push(wanted[k]);
   if (lacks.length) tell("This browser has no " + lacks.join(" and no "));
-  else window.addEventListener("load", function () { if (document.documentElement.getAttribute("data-began") !== "yes") tell("This browser does not read the page's scripts"); });
+  else window.addEventListener("load", function () {
+    if (document.documentElement.getAttribute("data-began") !== "yes") tell("This browser does not read the page's scripts");
+  });
   return lacks.length > 0;
 })();

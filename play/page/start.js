@@ -1,8 +1,9 @@
 /* The page begins. */
 function listen() {
   const does = {
-    run: runNow, stop, link: showLink, linkcopy: copyLink, linkclose: () => { element("linkbox").hidden = true; element("link").focus(); }, whole: downloadWhole,
-    programopen: () => chooseFile("program"), programsave: () => saveFile("program"), scheduleopen: () => chooseFile("schedule"), schedulesave: () => saveFile("schedule"),
+    run: runNow, stop, link: showLink, linkcopy: copyLink, linkclose: hideLink, whole: downloadWhole,
+    programopen: () => chooseFile("program"), programsave: () => saveFile("program"),
+    scheduleopen: () => chooseFile("schedule"), schedulesave: () => saveFile("schedule"),
     faultplace: () => { if (fault.now && fault.now.line) goTo(fault.now); },
   };
   for (const [id, act] of Object.entries(does)) element(id).addEventListener("click", () => act());

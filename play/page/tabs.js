@@ -3,8 +3,14 @@
 const BOTH = ["program", "schedule"];
 const TABS = [
   { id: "picture", title: "Picture", fill: fillPicture },
-  { id: "printed", title: "What it prints", command: "run", takes: BOTH, says: "The lines of the run, each behind the number of its turn, and how it ends." },
-  { id: "survivors", title: "Survivors", command: "survive", takes: BOTH, says: "The turns that stood, as a record: what was undone has left no trace." },
+  {
+    id: "printed", title: "What it prints", command: "run", takes: BOTH,
+    says: "The lines of the run, each behind the number of its turn, and how it ends.",
+  },
+  {
+    id: "survivors", title: "Survivors", command: "survive", takes: BOTH,
+    says: "The turns that stood, as a record: what was undone has left no trace.",
+  },
   { id: "stuck", title: "Stuck?", command: "stuck", takes: BOTH, says: "Whether anything can still go on after the turns of the schedule." },
   { id: "listing", title: "Listing", command: "code", takes: ["program"], says: "The instructions that the program is compiled to." },
 ];
@@ -60,7 +66,8 @@ function makeTabs() {
     const panel = made("div", { role: "tabpanel", id: `panel-${tab.id}`, "aria-labelledby": `tab-${tab.id}` });
     element("panels").append(panel);
     if (tab.fill) continue;
-    panel.append(made("p", { class: "note" }, tab.says), made("pre", { tabindex: 0, role: "group", "aria-label": tab.title }), made("button", {}, "Save"));
+    const text = made("pre", { tabindex: 0, role: "group", "aria-label": tab.title });
+    panel.append(made("p", { class: "note" }, tab.says), text, made("button", { "aria-label": `Save what ${tab.command} prints` }, "Save"));
   }
   element("tabs").addEventListener("keydown", event => {
     if (!Object.hasOwn(KEYS_OF_TABS, event.key)) return;
