@@ -1,5 +1,5 @@
-/* Calls the engine's WebAssembly module: the programs `rbl` and `rblview` over texts in memory. A classic script of a page, where it sets `Engine`, and
-   a module for `require` in node. */
+/* Calls the engine's WebAssembly module: the programs `rbl` and `rblview` over texts in memory. A classic script of a page, where it sets
+   `Engine`, and a module for `require` in node. */
 "use strict";
 (() => {
   const FIRST_ROOM = 1 << 20, LARGEST_ROOM = 1 << 30, GROWTH = 16;
@@ -65,8 +65,9 @@
     ask(program, words, texts = [], largest = LARGEST_ROOM) {
       const given = [ended(words), ...[0, 1, 2].map(at => bytesOf(at < texts.length ? texts[at] : ""))];
       for (let room = Math.min(FIRST_ROOM, largest); ; room = Math.min(room * GROWTH, largest)) {
-        const answer = this.call(program, given, texts.length, room, Math.ceil(room / GROWTH));
-        if (room === largest || answer.status !== NO_ROOM && answer.reason.length < room / GROWTH) return answer;
+        const reasonRoom = Math.max(room, FIRST_ROOM) / GROWTH;
+        const answer = this.call(program, given, texts.length, room, reasonRoom);
+        if (room === largest || answer.status !== NO_ROOM && answer.reason.length < reasonRoom) return answer;
       }
     }
 
