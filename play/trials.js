@@ -141,6 +141,7 @@ async function links(page) {
   same("the program of a link", await page.text("program"), program);
   same("the schedule of a link", await page.text("schedule"), schedule);
   same("the run of a link", await page.told("outcome"), "After 30 turns: p is done.");
+  same("a link takes nothing from what is kept", await page.ask(`localStorage.getItem("rbl.texts")`), null);
   await page.type({ program: program.replace("mine", "kept") });
   same("a changed text leaves the address", await page.ask("location.hash"), "");
   await page.open(addressOf(PAGE), { isKept: true });

@@ -24,6 +24,7 @@ async function followAddress() {
   const given = location.hash.startsWith(BEGIN) ? await textsOfLink(location.hash) : null;
   if (given) {
     notice("");
+    lesson = null;
     putTexts(given);
     return true;
   }

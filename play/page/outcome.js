@@ -26,7 +26,7 @@ function outcomeInWords(told, found) {
   if (told.isStopped) return "Stopped.";
   if (told.fault) return `The engine broke down (${told.fault}); another was started.`;
   if (told.status === 0) return endInWords(textOfBytes(told.out));
-  if (found) return `Refused: ${found.name}${found.line ? ` at line ${found.line} of the ${found.text}` : ` in the ${found.text}`}.`;
+  if (found && found.name) return `Refused: ${found.name}${found.line ? ` at line ${found.line} of the ${found.text}` : ` in the ${found.text}`}.`;
   return STATUSES[told.status] || `It ended with status ${told.status}.`;
 }
 

@@ -29,6 +29,7 @@ async function ask(program, words, given) {
 
 function showBusy() {
   const isBusy = pending > 0 && performance.now() - busySince >= PATIENCE;
+  if (!isBusy && document.activeElement === element("stop")) element("run").focus();
   element("stop").hidden = !isBusy;
 }
 
@@ -40,7 +41,6 @@ function changed() {
   setSettled(false);
   clearTimeout(timer);
   timer = setTimeout(run, Math.max(SOON, Math.min(LATE, lastTook / 4)));
-  keep("texts", JSON.stringify(texts()));
   showWhichLesson();
 }
 
@@ -54,6 +54,7 @@ async function run() {
   clearTimeout(timer);
   setSettled(false);
   const mine = current = new Run(texts()), from = performance.now();
+  if (location.hash.length < 2) keep("texts", JSON.stringify(mine.texts)); // those of a link are kept by it
   for (const end = performance.now() + PATIENCE; thread.isBusy && performance.now() < end;) await wait(10);
   if (mine !== current) return;
   if (thread.isBusy) thread.stop();

@@ -33,9 +33,9 @@ function addScript(text) {
 }
 
 async function start() {
-  thread = new Thread(element("worker").textContent, element("module").textContent);
+  thread = new Thread(element("worker").textContent, element("module").textContent, made => { element("made").textContent = made; });
   thread.begin();
-  const [editor, view, lessons] = await Promise.all(["editor", "view", "lessons"].map(id => unpacked(element(id).textContent)));
+  const [editor, view, list] = await Promise.all(["editor", "view", "lessons"].map(id => unpacked(element(id).textContent)));
   picture.page = view;
   makeTabs();
   makePicture(textOfBytes(view));
@@ -43,9 +43,9 @@ async function start() {
   const grammars = JSON.parse(element("grammars").textContent);
   makeEditor("program", "the program", grammars.program);
   makeEditor("schedule", "the schedule", grammars.schedule);
-  makeLessons(JSON.parse(textOfBytes(lessons)));
+  makeLessons(JSON.parse(textOfBytes(list)));
   listen();
-  if (!await followAddress()) putTexts(textsKept() || LESSONS.find(one => one.name === FIRST));
+  if (!await followAddress()) putTexts(textsKept() || lessons.find(one => one.name === FIRST));
   await runNow();
   document.documentElement.dataset.ready = "yes";
 }

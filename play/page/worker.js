@@ -15,11 +15,10 @@ async function begin({ packed, module }) {
 }
 
 function answer({ program, words, texts }) {
-  const from = performance.now();
   engine = engine || new Engine(new WebAssembly.Instance(engineModule, {}));
   const told = engine.ask(program, words, texts);
   if (engine.memory > LARGE) engine = null;
-  postMessage({ ...told, took: performance.now() - from }, [told.out.buffer, told.reason.buffer]);
+  postMessage(told, [told.out.buffer, told.reason.buffer]);
 }
 
 onmessage = ({ data }) => {
