@@ -5,7 +5,9 @@ const { Driven } = require("./driven.js");
 const fs = require("fs"), path = require("path"), zlib = require("zlib");
 
 const BOTH = ["program", "schedule"];
-const COMMANDS = { printed: ["run", BOTH], survivors: ["survive", BOTH], stuck: ["stuck", BOTH], listing: ["code", ["program"]] };
+const COMMANDS = {
+  printed: ["run", BOTH], survivors: ["survive", BOTH], alone: ["plain", ["program", "record"]], stuck: ["stuck", BOTH], listing: ["code", ["program"]],
+};
 const LONG = {
   program: "edition 2; program long; process p { var x; while 1 { x := sum i from 1 to 1000 : (sum j from 1 to 1000 : 1); } } end.\n",
   schedule: "p 1000000\n",
@@ -30,8 +32,9 @@ async function lessons(page, names) {
   const all = JSON.parse(zlib.gunzipSync(Buffer.from(await page.told("lessons"), "base64")));
   for (const { name, program, schedule, question } of names ? all.filter(one => names.includes(one.name)) : all) {
     await page.choose(name);
+    const record = native("rbl", ["survive", ...BOTH], { program, schedule }).out;
     for (const [tab, [command, takes]] of Object.entries(COMMANDS)) {
-      same(`${command} ${name}`, await page.tab(tab), native("rbl", [command, ...takes], { program, schedule }).out);
+      same(`${command} ${name}`, await page.tab(tab), native("rbl", [command, ...takes], { program, schedule, record }).out);
     }
     same(`question of ${name}`, await page.told("question"), question);
     await page.tab("picture");

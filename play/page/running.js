@@ -13,8 +13,14 @@ class Run {
     this.answers = new Map();
   }
   answer(command, takes, program = "rbl") {
-    if (!this.answers.has(command)) this.answers.set(command, ask(program, [command, ...takes], takes.map(name => this.texts[name])));
+    if (!this.answers.has(command)) this.answers.set(command, this.#answered(command, takes, program));
     return this.answers.get(command);
+  }
+  // The text `record` is what `survive` prints of the others.
+  async #answered(command, takes, program) {
+    const record = takes.includes("record") ? await this.answer("survive", BOTH) : null;
+    if (record && record.status !== 0) return record;
+    return ask(program, [command, ...takes], takes.map(name => name === "record" ? record.out : this.texts[name]));
   }
 }
 

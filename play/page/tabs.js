@@ -1,5 +1,5 @@
-/* What is shown of a run: a row for each tab. One with a `command` shows what this command of `rbl` prints over the texts that it `takes`; a row
-   can name another `program`. */
+/* What is shown of a run: a row for each tab. One with a `command` shows what this command of `rbl` prints over the texts that it `takes`, of
+   which `record` is what `survive` prints; a row can name another `program`. */
 const BOTH = ["program", "schedule"];
 const TABS = [
   { id: "picture", title: "Picture", fill: fillPicture },
@@ -10,6 +10,10 @@ const TABS = [
   {
     id: "survivors", title: "Survivors", command: "survive", takes: BOTH,
     says: "The turns that stood, as a record: what was undone has left no trace.",
+  },
+  {
+    id: "alone", title: "Run alone", command: "plain", takes: ["program", "record"],
+    says: "The turns that stood, run alone, with nothing ever rejected: they print the same lines, and end with the same values.",
   },
   { id: "stuck", title: "Stuck?", command: "stuck", takes: BOTH, says: "Whether anything can still go on after the turns of the schedule." },
   { id: "listing", title: "Listing", command: "code", takes: ["program"], says: "The instructions that the program is compiled to." },
