@@ -7,9 +7,8 @@ const trials = require("./trials.js");
 
 async function main() {
   const page = new Driven(await Firefox.start(process.env.FIREFOX || "firefox-esr"));
-  const { opening, editing, colours, faults, files, links, stopping, mishaps } = trials;
-  const someLessons = () => trials.lessons(page, ["step3", "sorting", "voting"]);
-  await inTurn(page, [opening, someLessons, editing, colours, faults, files, links, stopping, mishaps]);
+  const { opening, lessons, ...others } = trials, someLessons = () => lessons(page, ["step3", "sorting", "voting"]);
+  await inTurn(page, [opening, someLessons, ...Object.values(others)]);
   await page.browser.stop();
   cases.end();
 }

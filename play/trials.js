@@ -189,6 +189,9 @@ async function manyTurns(page) {
   same("the first of a million survivors", shown.slice(0, 1000).join("\n"), lines.slice(0, 1000).join("\n"));
   same("the last of them", shown.slice(-1000).join("\n"), lines.slice(-1000).join("\n"));
   same("what is left out", shown[1000], `… ${(lines.length - 2000).toLocaleString("en")} lines left out …`);
+  const alone = native("rbl", ["plain", "program", "record"], { ...texts, record });
+  same("a record that is too long", await page.tab("alone"), `${alone.out}\n${alone.reason}`);
+  await page.tab("survivors");
   await page.ask(`document.querySelector("#panel-survivors button").id = "saverecord"`);
   const [name, file] = await page.file("saverecord");
   same("all of them as a file", file === record && name, `${/program (\w+)/.exec(texts.program)[1]}.survive`);

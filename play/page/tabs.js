@@ -37,7 +37,9 @@ async function fillText(tab, run) {
   const told = await run.answer(tab.command, tab.takes, tab.program);
   if (run !== current) return;
   const isPrinted = Boolean(told.out && (told.status === 0 || told.out.length));
-  text.textContent = isPrinted ? shortened(textOfBytes(told.out)) : outcomeInWords(told, null);
+  // Why a run is refused stands beside the texts; why this command alone refuses something, here.
+  const why = isPrinted && !fault.now ? textOfBytes(told.reason) : "";
+  text.textContent = isPrinted ? shortened(textOfBytes(told.out)) + (why && `\n${why}`) : outcomeInWords(told, null);
   panel.querySelector("button").onclick = () => download(`${nameOfProgram()}.${tab.command}`, "text/plain", told.out);
   panel.querySelector("button").hidden = !isPrinted;
   panel.classList.remove("old");
