@@ -149,8 +149,10 @@ async function links(page) {
   same("a changed text leaves the address", await page.ask("location.hash"), "");
   await page.open(addressOf(PAGE), { isKept: true });
   same("the last text is kept", await page.text("program"), program.replace("mine", "kept"));
+  await page.open(addressOf(PAGE, "#example=voting"));
+  same("a link that names an example", await page.ask(`document.getElementById("lesson").value`), "voting");
   const noTexts = `#text=${zlib.deflateRawSync('{"a":1}').toString("base64url")}`, cut = link.slice(link.indexOf("#"), -9);
-  for (const [what, hash] of [["cut", cut], ["no base64", "#text=%%%"], ["no texts", noTexts], ["another", "#hello"]]) {
+  for (const [what, hash] of [["cut", cut], ["no base64", "#text=%%%"], ["no texts", noTexts], ["another", "#hello"], ["of no example", "#example=none"]]) {
     await page.open(addressOf(PAGE, hash));
     same(`a link that is ${what}`, (await page.told("notice")).startsWith("The address of this page holds no program"), true);
     same(`the page goes on behind a link that is ${what}`, await page.told("outcome"), "After 60 turns: buyer and shop are done.");

@@ -31,11 +31,11 @@ Measured = namedtuple("Measured", "status seconds megabytes")
 @functools.cache
 def _told(name):
     """What tools/program.sh tells of a program, which it compiles where it has to."""
-    return subprocess.run([os.path.join(ROOT, "tools/program.sh"), name], stdout=subprocess.PIPE, text=True, check=False)
+    return subprocess.run([os.path.join(ROOT, "tools/program.sh"), name, "native"], stdout=subprocess.PIPE, text=True, check=False)
 
 
 def program(name):
-    """Where a program stands: what RBL or RBLVIEW names, or what `./rbl` or `./rblview` runs."""
+    """Where a program stands: what RBL or RBLVIEW names, or one of this machine, which is compiled if it does not stand."""
     if name.upper() in os.environ:
         return os.path.abspath(os.environ[name.upper()])
     told = _told(name)

@@ -33,6 +33,13 @@ class Playground(Told):
         self.assertEqual(set(found), schedules)
         self.each(list(found.items()), lambda one: None if len(one["question"]) > 15 and one["title"] else f"it is asked {one['question']!r}")
 
+    def test_named(self):
+        """Each example that a page of docs/ opens in the playground is listed."""
+        names = {one["name"] for one in listed().values()}
+        pages = ["README.md"] + sorted(f"docs/{name}" for name in os.listdir(os.path.join(ROOT, "docs")) if name.endswith(".md"))
+        links = [(page, name) for page in pages for name in re.findall(r"play/rbl\.html#example=([\w.]+)", text_of(page))]
+        self.each([(f"{name} in {page}", name) for page, name in links], lambda name: None if name in names else "it is not listed")
+
     @unittest.skipUnless(HAS_PAGE, "no play/rbl.html here")
     def test_joined(self):
         """play/rbl.html is what play/join.py makes of the parts and the module that is in it."""

@@ -1,5 +1,5 @@
-/* A link that holds the program and its schedule, behind the `#`: so it is sent to nobody. */
-const BEGIN = "#text=";
+/* A link that holds the program and its schedule, behind the `#`: so it is sent to nobody; and one that names an example. */
+const BEGIN = "#text=", EXAMPLE = "#example=";
 const MOST_OF_LINK = 8 * MOST_BYTES;
 
 async function linkOf({ program, schedule }) {
@@ -21,7 +21,8 @@ async function textsOfLink(hash) {
 // Takes what the address holds; false where it holds nothing that can be taken.
 async function followAddress() {
   if (location.hash.length < 2) return false;
-  const given = location.hash.startsWith(BEGIN) ? await textsOfLink(location.hash) : null;
+  const named = location.hash.startsWith(EXAMPLE) && lessons.find(one => EXAMPLE + one.name === location.hash);
+  const given = named || (location.hash.startsWith(BEGIN) ? await textsOfLink(location.hash) : null);
   if (given) {
     notice("");
     lesson = null;

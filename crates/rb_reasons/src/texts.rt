@@ -1,6 +1,6 @@
 //! The texts, in the order of their names. Each has the meaning behind its name, `usually:` and `mend:`, then the files of its example,
 //! each behind a line of its kind, and behind `shows:` the line that `rbl` writes of it; of the example of a cause this is a line of its
-//! run. `docs/reasons.py` runs them all.
+//! run. `./test reasons` (`tests/test_reasons.py`) runs them all.
 
 mod causes;
 mod files;

@@ -3,3 +3,4 @@ mod Held
 mod Putting
 mod Ready
 mod Wishes
+pub mod Files

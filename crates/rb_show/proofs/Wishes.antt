@@ -8,6 +8,7 @@ use Rattle.rb_hall.specs.declared.outcome.Outcome.TheVariants as out
 use Rattle.rb_hall.proofs.Behind.{ends_without_memory}
 use Rattle.rb_verdict.specs.Judging.{JudgesWithin, TakesWhileWriting}
 use Rattle.rb_verdict.specs.Words.{Request, usage_of}
+use Rattle.rb_tell.specs.declared.end.Telling.TheVariants.{Nothing}
 use Rattle.rb_show.specs.Entrance.{WishedEnds}
 use Rattle.rb_show.specs.Wished.{Explained, IsWished, explain_of, explains_of}
 use Rattle.rb_show.specs.Words.{Wish, Draws, Explains, usage_line}
@@ -52,7 +53,7 @@ pub wished_without_memory : (wish : Option Wish) (files : Option (List File)) (s
     → WishedEnds wish
     (record { files = files; starts = starts; read_faults = r; written = w; write_faults = went_well f })
     (record { files = files; starts = starts; read_faults = r; written = w; write_faults = f })
-    told told faults faults 5
+    told told faults faults 5 Nothing
 wished_without_memory wish files starts r f w told faults =
     let (request, is) = wished_request wish in (
       request,
@@ -63,6 +64,6 @@ wished_without_memory wish files starts r f w told faults =
         ends = ends_without_memory (JudgesWithin request) (explains_of request.command) request.files (TakesWhileWriting request.command)
             files starts r f w;
         untouched = λ none. (refl, refl);
-        tells = (refl, refl);
+        tells = (refl, (refl, refl));
       },
     )

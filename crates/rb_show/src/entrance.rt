@@ -14,7 +14,7 @@ use crate::request::{Wish, command};
 use rb_commands::{Why, Words};
 use rb_hall::{Outcome, Wanted};
 use rb_outside::{Shelf, Sink};
-use rb_tell::{Blamed, End, Left, tell};
+use rb_tell::{Blamed, End, Left, Telling, tell};
 use std::alloc::Global;
 
 /// The exit status where memory is wanting.
@@ -36,12 +36,13 @@ pub fn hall<F: Shelf + Blamed, S: Sink + Blamed + Drop, E: Sink>(
     ensures ends { WishedEnds (wish_of words.now)
         (scene_of F.files F.starts F.faults S.written (λ sink. went_well (S.faults sink)) shelf.old out)
         (scene_of F.files F.starts F.faults S.written S.faults shelf.new result.sink)
-        (E.written err.old) (E.written err.new) (E.faults err.old) (E.faults err.new) result.number }
+        (E.written err.old) (E.written err.new) (E.faults err.old) (E.faults err.new) result.number result.told }
 {
     let Ok(wish) = requested(alloc, words) else {
         return Left {
             sink: out,
             number: NO_MEMORY,
+            told: Telling::Nothing,
         };
     };
     carried(alloc, wish, shelf, out, err)
@@ -60,7 +61,7 @@ fn carried<F: Shelf + Blamed, S: Sink + Blamed + Drop, E: Sink>(
     ensures ends { ViewEnds (asked wish.entry)
         (scene_of F.files F.starts F.faults S.written (λ sink. went_well (S.faults sink)) shelf.old out)
         (scene_of F.files F.starts F.faults S.written S.faults shelf.new result.sink)
-        (E.written err.old) (E.written err.new) (E.faults err.old) (E.faults err.new) result.number }
+        (E.written err.old) (E.written err.new) (E.faults err.old) (E.faults err.new) result.number result.told }
 {
     let mut slots = [Vec::new(alloc), Vec::new(alloc), Vec::new(alloc)];
     let carried = command(alloc, wish, &mut slots, shelf, out);
@@ -69,10 +70,11 @@ fn carried<F: Shelf + Blamed, S: Sink + Blamed + Drop, E: Sink>(
         unwritten: carried.sink.reason(),
     };
     let file = file_in(&wish, &carried.outcome);
-    tell(alloc, "rblview", file, &carried.outcome, said, err);
+    let told = tell(alloc, "rblview", file, &carried.outcome, said, err);
     Left {
         number: number_of(&wish, &carried.outcome),
         sink: carried.sink,
+        told,
     }
 }
 

@@ -11,6 +11,7 @@ use Rattle.rb_verdict.specs.Words.{Command, Usage, Request}
 use Rattle.rb_commands.specs.Requests.{explains_of}
 use Rattle.rb_commands.specs.declared.why.Why.{Why}
 use Rattle.rb_tell.specs.Telling.{Tells}
+use Rattle.rb_tell.specs.declared.end.Telling.{Telling}
 
 -- the exit status where what was to be written is written: 2 for the line that shows the commands, which comes where words ask for nothing
 abbrev pub done_number : Command → ℕ
@@ -34,13 +35,13 @@ file_of request outcome = None
 -- A program that carries out this request ends so: there is one end with this exit status; it has its cause behind the buffer, comes where
 -- nothing outside stands in the way, and is told on standard error.
 pub record ProgramEndsSo (explains : Command → Explaining Why) (program : List ℕ) (request : Request) (old new : Scene) (told_old told_new : Option (List ℕ))
-    (told_before told_after : Faults) (number : ℕ) : Type 0 where
+    (told_before told_after : Faults) (number : ℕ) (telling : Telling) : Type 0 where
   pub outcome : Outcome Why
   pub is : number ≡ number_of request.command outcome
   pub ends : EndsBehind (JudgesWithin request) (explains request.command) request.files (TakesWhileWriting request.command) old new outcome
   pub untouched : request.files ≡ [] → (new.starts ≡ old.starts) × (new.read_faults ≡ old.read_faults)
-  pub tells : Tells program (file_of request outcome) outcome told_old told_new told_before told_after
+  pub tells : Tells program (file_of request outcome) outcome told_old told_new told_before told_after telling
 
 -- so a program ends whose commands are those of `rbl`
-abbrev pub ProgramEnds : List ℕ → Request → Scene → Scene → Option (List ℕ) → Option (List ℕ) → Faults → Faults → ℕ → Type 0
+abbrev pub ProgramEnds : List ℕ → Request → Scene → Scene → Option (List ℕ) → Option (List ℕ) → Faults → Faults → ℕ → Telling → Type 0
 ProgramEnds = ProgramEndsSo explains_of

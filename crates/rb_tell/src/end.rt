@@ -1,7 +1,7 @@
 //! What standard error is told of the end of a command. Where standard error fails too, the exit status alone tells it.
 ghost use Rattle.std.specs.Prelude.{◌≡◌, ◌++◌, ℕ, List, codes, IfOk, OnOk, option_map};
 ghost use Rattle.rb_hall.specs.Ends.{wanted_of};
-ghost use Rattle.rb_tell.specs.Telling.{IsTold, IsUnread, IsUnwritten, PutsTold, Tells};
+ghost use Rattle.rb_tell.specs.Telling.{IsShortEnd, IsTold, IsUnread, IsUnwritten, PutsTold, Tells};
 ghost use Rattle.rb_tell.specs.Reasons.{IsReasonFor, IsShort};
 
 use crate::reason::{is_short, reason_of};
@@ -19,8 +19,21 @@ pub struct End {
     pub unwritten: Option<io::Error>,
 }
 
+/// What became of what standard error is told.
+#[derive(Clone, Copy)]
+pub enum Telling {
+    /// There was nothing to tell.
+    Nothing,
+    /// All of it was written.
+    Told,
+    /// A write failed, behind a front of it.
+    Unheard,
+    /// Memory was wanting for it, and nothing was written.
+    Memory,
+}
+
 /// Tells how a command of a program ended over its files, of which this is the one that the end is about: why a text was refused, which file could
-/// not be read, or that nothing could be written. Of any other end nothing is told, nor where memory is wanting.
+/// not be read, or that nothing could be written; and gives what became of it. Of any other end nothing is told, nor where memory is wanting.
 pub fn tell<E: Sink>(
     alloc: Global,
     program: &str,
@@ -28,41 +41,51 @@ pub fn tell<E: Sink>(
     outcome: &Outcome<'_, Why>,
     said: End,
     err: &mut E,
-)
-    ensures { Tells program.now (option_map wanted_of file.entry) outcome.now (E.written err.old) (E.written err.new) (E.faults err.old) (E.faults err.new) }
+) -> Telling
+    ensures { IsShortEnd outcome.now
+        → Tells program.now (option_map wanted_of file.entry) outcome.now (E.written err.old) (E.written err.new)
+        (E.faults err.old) (E.faults err.new) result }
 {
     match outcome {
-        Outcome::Refused(refusal) => {
-            if let Some(file) = file {
-                tell_reason(alloc, file.name, refusal, err);
-            }
-        }
-        Outcome::ReadFault(_) => {
-            if let Some(file) = file {
-                put_told(unread(alloc, program, file.name, said.unread), err);
-            }
-        }
+        Outcome::Refused(refusal) => match file {
+            Some(file) => tell_reason(alloc, file.name, refusal, err),
+            None => Telling::Nothing,
+        },
+        Outcome::ReadFault(_) => match file {
+            Some(file) => put_told(unread(alloc, program, file.name, said.unread), err),
+            None => Telling::Nothing,
+        },
         Outcome::WriteFault => put_told(unwritten(alloc, program, said.unwritten), err),
-        Outcome::Done | Outcome::Memory => {}
+        Outcome::Done | Outcome::Memory => Telling::Nothing,
     }
 }
 
 // Why a text of a file of this name was refused.
-fn tell_reason<E: Sink>(alloc: Global, file: &str, refusal: &Refusal<'_, Why>, err: &mut E)
+fn tell_reason<E: Sink>(
+    alloc: Global,
+    file: &str,
+    refusal: &Refusal<'_, Why>,
+    err: &mut E,
+) -> Telling
     ensures { IsShort refusal.now.fault refusal.now.text.now
-        → IsTold (IsReasonFor file.now refusal.now) (E.written err.old) (E.written err.new) (E.faults err.old) (E.faults err.new) }
+        → IsTold (IsReasonFor file.now refusal.now) (E.written err.old) (E.written err.new) (E.faults err.old) (E.faults err.new) result }
 {
-    if is_short(refusal) {
-        put_told(reason_of(alloc, file.as_bytes(), refusal), err);
+    if !is_short(refusal) {
+        return Telling::Nothing;
     }
+    put_told(reason_of(alloc, file.as_bytes(), refusal), err)
 }
 
 // Puts a text, if memory was there for it.
-fn put_told<E: Sink>(told: Result<Vec<u8>, Memory>, err: &mut E)
-    ensures { PutsTold told (E.written err.old) (E.written err.new) (E.faults err.old) (E.faults err.new) }
+fn put_told<E: Sink>(told: Result<Vec<u8>, Memory>, err: &mut E) -> Telling
+    ensures { PutsTold told (E.written err.old) (E.written err.new) (E.faults err.old) (E.faults err.new) result }
 {
-    if let Ok(text) = told {
-        let _put = put_all(err, text.as_slice());
+    let Ok(text) = told else {
+        return Telling::Memory;
+    };
+    match put_all(err, text.as_slice()) {
+        Ok(()) => Telling::Told,
+        Err(_) => Telling::Unheard,
     }
 }
 

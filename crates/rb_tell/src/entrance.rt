@@ -8,7 +8,7 @@ ghost use Rattle.rb_verdict.specs.Words.{request_for};
 ghost use Rattle.rb_commands.specs.Asked.{asked};
 ghost use Rattle.rb_tell.specs.Entrance.{ProgramEnds, file_of, number_of as exit_status};
 
-use crate::end::{End, tell};
+use crate::end::{End, Telling, tell};
 use crate::host::Blamed;
 use rb_commands::{Request, Why, Words, command, requested};
 use rb_hall::{Outcome, Wanted};
@@ -18,11 +18,12 @@ use std::alloc::Global;
 /// The exit status where memory is wanting.
 const NO_MEMORY: u8 = 5;
 
-/// The sink that a command wrote to, and the exit status.
+/// The sink that a command wrote to, the exit status, and what became of what standard error is told.
 #[derive(Drop)]
 pub struct Left<S> {
     pub sink: S,
     pub number: u8,
+    pub told: Telling,
 }
 
 /// Carries out what the words ask for over a shelf and a sink, tells on the other sink why a text was refused, from the bytes that were read of
@@ -41,12 +42,13 @@ pub fn hall<F: Shelf + Blamed, S: Sink + Blamed + Drop, E: Sink>(
     ensures ends { ProgramEnds (codes "rbl") (request_for words.now)
         (scene_of F.files F.starts F.faults S.written (λ sink. went_well (S.faults sink)) shelf.old out)
         (scene_of F.files F.starts F.faults S.written S.faults shelf.new result.sink)
-        (E.written err.old) (E.written err.new) (E.faults err.old) (E.faults err.new) result.number }
+        (E.written err.old) (E.written err.new) (E.faults err.old) (E.faults err.new) result.number result.told }
 {
     let Ok(request) = requested(alloc, words) else {
         return Left {
             sink: out,
             number: NO_MEMORY,
+            told: Telling::Nothing,
         };
     };
     carried(alloc, request, shelf, out, err)
@@ -65,7 +67,7 @@ fn carried<F: Shelf + Blamed, S: Sink + Blamed + Drop, E: Sink>(
     ensures ends { ProgramEnds (codes "rbl") (asked request.entry)
         (scene_of F.files F.starts F.faults S.written (λ sink. went_well (S.faults sink)) shelf.old out)
         (scene_of F.files F.starts F.faults S.written S.faults shelf.new result.sink)
-        (E.written err.old) (E.written err.new) (E.faults err.old) (E.faults err.new) result.number }
+        (E.written err.old) (E.written err.new) (E.faults err.old) (E.faults err.new) result.number result.told }
 {
     let mut slots = [Vec::new(alloc), Vec::new(alloc), Vec::new(alloc)];
     let carried = command(alloc, request, &mut slots, shelf, out);
@@ -74,10 +76,11 @@ fn carried<F: Shelf + Blamed, S: Sink + Blamed + Drop, E: Sink>(
         unwritten: carried.sink.reason(),
     };
     let file = file_in(&request, &carried.outcome);
-    tell(alloc, "rbl", file, &carried.outcome, said, err);
+    let told = tell(alloc, "rbl", file, &carried.outcome, said, err);
     Left {
         number: number_of(&request, &carried.outcome),
         sink: carried.sink,
+        told,
     }
 }
 

@@ -1,5 +1,5 @@
 //! Why a text was refused, in words, by its fault, its bytes as they were read, and what is known beside.
-ghost use Rattle.std.specs.Prelude.{◌≡◌, ◌≤◌, length, IfOk, IsTrue, option_map};
+ghost use Rattle.std.specs.Prelude.{◌≡◌, ◌≤◌, false, length, IfOk, IsTrue, option_map};
 ghost use Rattle.rb_tell.specs.Reasons.{IsReasonFor, IsShort, IsStuckReason, names_of};
 
 use rb_base::{FaultName, MOST_BYTES, Memory, Names};
@@ -25,7 +25,8 @@ pub fn reason_of(alloc: Global, file: &[u8], refusal: &Refusal<'_, Why>) -> Resu
 
 /// Whether what was read is no longer than a text may be, or is not looked at for the reason.
 pub fn is_short(refusal: &Refusal<'_, Why>) -> bool
-    ensures { IsTrue result → IsShort refusal.now.fault refusal.now.text.now }
+    ensures short { IsTrue result → IsShort refusal.now.fault refusal.now.text.now }
+    ensures long { result ≡ false → IsShort refusal.now.fault refusal.now.text.now → ⊥ }
 {
     match refusal.fault {
         Fault::NoImage | Fault::Unsound | Fault::Long => true,

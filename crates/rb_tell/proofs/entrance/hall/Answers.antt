@@ -16,5 +16,5 @@ returns-in_default-clause-ends g c =
           (g.F.Shelf.files c.args.shelf.now) (g.F.Shelf.starts c.args.shelf.now) (g.F.Shelf.faults c.args.shelf.now) (g.S.Sink.faults c.args.out)
           (g.S.Sink.written c.args.out);
       untouched = λ none. (refl, refl);
-      tells = (refl, refl);
+      tells = (refl, (refl, refl));
     }

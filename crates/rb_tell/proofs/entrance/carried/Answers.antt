@@ -1,0 +1,37 @@
+use Rattle.std.proofs.Common.{Option, codes, ap, subst}
+use Rattle.rb_outside.specs.Outside.{went_well}
+use Rattle.rb_hall.specs.Answers.{scene_of}
+use Rattle.rb_hall.specs.Judgement.{Wants}
+use Rattle.rb_verdict.specs.Judging.{TakesWhileWriting}
+use Rattle.rb_commands.specs.Asked.{asked}
+use Rattle.rb_commands.specs.Requests.{explains_of}
+use Rattle.rb_tell.specs.Telling.{Tells}
+use Rattle.rb_tell.proofs.Files.{has_its_files}
+use Rattle.rb_tell.proofs.Short.{short_end}
+use Rattle.rb_tell.proofs.entrance.carried.Goals as goal
+
+pub returns-clause-ends : goal.returns-clause-ends
+returns-clause-ends g c =
+    let given = c.args.request in
+    let request = asked given in
+    let carried = c.command-carried in
+    let outcome = carried.result.outcome in
+    let told = c.tell-told in
+    let old = scene_of g.F.Shelf.files g.F.Shelf.starts g.F.Shelf.faults g.S.Sink.written (λ sink. went_well (g.S.Sink.faults sink)) c.args.shelf.now
+    c.args.out in
+    let new = scene_of g.F.Shelf.files g.F.Shelf.starts g.F.Shelf.faults g.S.Sink.written g.S.Sink.faults carried.new.shelf carried.result.sink in
+    record {
+      outcome = outcome;
+      is = c.number_of.ensures;
+      ends = carried.ensures.ends;
+      untouched = λ none. (
+        ap g.F.Shelf.starts (carried.ensures.untouched none),
+        ap g.F.Shelf.faults (carried.ensures.untouched none),
+      );
+      tells = subst
+          (λ (file : Option Wants). Tells (codes "rbl") file outcome (g.E.Sink.written c.args.err.now) (g.E.Sink.written told.new.err)
+          (g.E.Sink.faults c.args.err.now) (g.E.Sink.faults told.new.err) told.result)
+          c.file_in-file.ensures
+          (told.ensures (short_end request (has_its_files given) (explains_of request.command) (TakesWhileWriting request.command) old new outcome
+          carried.ensures.ends));
+    }

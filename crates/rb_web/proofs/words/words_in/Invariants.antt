@@ -1,0 +1,12 @@
+use Rattle.std.proofs.Common.{◌≡◌, nat_eq, ◌++◌, length}
+use denote.Text.{Utf8}
+use denote.Shadow.{shadow}
+use Rattle.std.specs.List.{slice_split}
+use Rattle.rb_web.proofs.words.words_in.Given as goal
+
+-- the text is cut into the words, and the parts of what is left
+abbrev pub invariant-loop-word : goal.invariant-loop-word
+invariant-loop-word l = shadow (Utf8 l.rest) × (slice_split (λ b. nat_eq b 0) l.text ≡ l.words ++ slice_split (λ b. nat_eq b 0) l.rest)
+
+abbrev pub decreases-loop-word : goal.decreases-loop-word
+decreases-loop-word l = length l.rest
