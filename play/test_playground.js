@@ -5,7 +5,7 @@
 
    RBL and RBLVIEW may name the two programs, CHROMIUM the browser, PLAYGROUND another page than play/rbl.html. */
 "use strict";
-const http = require("http"), fs = require("fs"), path = require("path");
+const http = require("http"), fs = require("fs"), path = require("path"), zlib = require("zlib");
 const { Browser } = require("../view/browser.js"), cases = require("../view/cases.js");
 const { PAGE, OUT, example, addressOf, changedPage, same } = require("./native.js");
 const { Driven, inTurn, wait } = require("./driven.js"), trials = require("./trials.js");
@@ -66,7 +66,8 @@ async function oldBrowsers(page) {
     same(`without ${lacks}`, (await page.told("notice")).startsWith(`This browser has no ${lacks}, so it can not run the engine.`), true);
     await page.browser.send("Page.removeScriptToEvaluateOnNewDocument", { identifier });
   }
-  await page.open(addressOf(changedPage("unread", ["async function start() {", "async function start() }"])));
+  const other = `id="page">${zlib.gzipSync("not ours").toString("base64")}</script><script type="text/plain">`;
+  await page.open(addressOf(changedPage("unread", ['id="page">', other])));
   same("scripts that are not read", (await page.told("notice")).startsWith("This browser does not read the page's scripts, so it can not"), true);
 }
 

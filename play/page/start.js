@@ -25,25 +25,18 @@ function textsKept() {
   } catch (none) { return null; }
 }
 
-// The editor is a script of its own, which the page's policy knows.
-function addScript(text) {
-  const script = document.createElement("script");
-  script.textContent = text;
-  document.head.append(script);
-}
-
 async function start() {
   thread = new Thread(element("worker").textContent, element("module").textContent, made => { element("made").textContent = made; });
   thread.begin();
-  const [editor, view, list] = await Promise.all(["editor", "view", "lessons"].map(id => unpacked(element(id).textContent)));
+  const [editor, view, list] = await Promise.all(["editor", "view", "lessons"].map(textPacked));
   picture.page = view;
   makeTabs();
-  makePicture(textOfBytes(view));
-  addScript(textOfBytes(editor));
+  makePicture(view);
+  addScript(editor);
   const grammars = JSON.parse(element("grammars").textContent);
   makeEditor("program", "the program", grammars.program);
   makeEditor("schedule", "the schedule", grammars.schedule);
-  makeLessons(JSON.parse(textOfBytes(list)));
+  makeLessons(JSON.parse(list));
   listen();
   if (!await followAddress()) putTexts(textsKept() || lessons.find(one => one.name === FIRST));
   await runNow();
@@ -51,9 +44,7 @@ async function start() {
 }
 
 document.documentElement.dataset.began = "yes";
-if (!LACKS) {
-  start().catch(fault => {
-    notice(`This page could not begin: ${fault}`);
-    document.documentElement.dataset.ready = "no";
-  });
-}
+start().catch(fault => {
+  notice(`This page could not begin: ${fault}`);
+  document.documentElement.dataset.ready = "no";
+});
