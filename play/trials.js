@@ -6,7 +6,8 @@ const fs = require("fs"), path = require("path"), zlib = require("zlib");
 
 const BOTH = ["program", "schedule"];
 const COMMANDS = {
-  printed: ["run", BOTH], survivors: ["survive", BOTH], alone: ["plain", ["program", "record"]], stuck: ["stuck", BOTH], listing: ["code", ["program"]],
+  printed: ["run", BOTH], survivors: ["survive", BOTH], alone: ["plain", ["program", "record"]], stuck: ["stuck", BOTH],
+  listing: ["code", ["program"]],
 };
 const LONG = {
   program: "edition 2; program long; process p { var x; while 1 { x := sum i from 1 to 1000 : (sum j from 1 to 1000 : 1); } } end.\n",
@@ -152,7 +153,8 @@ async function links(page) {
   await page.open(addressOf(PAGE, "#example=voting"));
   same("a link that names an example", await page.ask(`document.getElementById("lesson").value`), "voting");
   const noTexts = `#text=${zlib.deflateRawSync('{"a":1}').toString("base64url")}`, cut = link.slice(link.indexOf("#"), -9);
-  for (const [what, hash] of [["cut", cut], ["no base64", "#text=%%%"], ["no texts", noTexts], ["another", "#hello"], ["of no example", "#example=none"]]) {
+  const bad = { cut, "no base64": "#text=%%%", "no texts": noTexts, another: "#hello", "of no example": "#example=none" };
+  for (const [what, hash] of Object.entries(bad)) {
     await page.open(addressOf(PAGE, hash));
     same(`a link that is ${what}`, (await page.told("notice")).startsWith("The address of this page holds no program"), true);
     same(`the page goes on behind a link that is ${what}`, await page.told("outcome"), "After 60 turns: buyer and shop are done.");

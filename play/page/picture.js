@@ -1,6 +1,6 @@
 /* The picture of a run: the page of view/ in a frame, which is told each run and draws it. */
 const MOST_DRAWN = 20000;
-const ELSEWHERE = "The other tabs tell of it.";
+const LONG = `one of up to ${many(MOST_DRAWN, "turn")} is drawn. The other tabs tell of it.`;
 const OLD = "This is the picture of the last run, before the texts were changed.";
 const picture = { frame: null, isReady: null, run: null };
 
@@ -32,7 +32,7 @@ async function fillPicture(tab, run) {
   if (run !== current || picture.run === run) return;
   if (told.status !== 0) return notePicture(picture.run ? OLD : "There is no run to draw.");
   const turns = turnsOf(textOfBytes(told.out));
-  if (turns > MOST_DRAWN) return notePicture(`This run has ${many(turns, "turn")}, and one of up to ${many(MOST_DRAWN, "turn")} is drawn. ${ELSEWHERE}`);
+  if (turns > MOST_DRAWN) return notePicture(`This run has ${many(turns, "turn")}, and ${LONG}`);
   const trace = await run.answer("trace", BOTH, "rblview");
   if (run !== current) return;
   if (trace.status !== 0) return notePicture("This run is not drawn.");
