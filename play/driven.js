@@ -25,8 +25,8 @@ class Driven {
   settled() { return this.until(`document.getElementById("panels").getAttribute("aria-busy") === "false"`); }
   // Types texts in place of those that are there, all at once; `type` waits for their run.
   put(texts) {
-    const edits = Object.entries(texts).map(([name, text]) =>
-      `(editor => editor.replaceRange(${JSON.stringify(text)}, { line: 0, ch: 0 }, { line: editor.lineCount(), ch: 0 }, "+input"))(${Driven.editor(name)})`);
+    const put = `(editor, text) => editor.replaceRange(text, { line: 0, ch: 0 }, { line: editor.lineCount(), ch: 0 }, "+input")`;
+    const edits = Object.entries(texts).map(([name, text]) => `(${put})(${Driven.editor(name)}, ${JSON.stringify(text)})`);
     return this.ask(`void [${edits.join(", ")}]`);
   }
   async type(texts) {
@@ -38,8 +38,11 @@ class Driven {
   click(id) { return this.ask(`document.getElementById("${id}").click()`); }
   told(id) { return this.ask(`document.getElementById("${id}").textContent`); }
   isHidden(id) { return this.ask(`document.getElementById("${id}").hidden`); }
+  select(id, value) {
+    return this.ask(`Object.assign(document.getElementById("${id}"), { value: ${JSON.stringify(value)} }).dispatchEvent(new Event("change"))`);
+  }
   async choose(name) {
-    await this.ask(`(select => { select.value = ${JSON.stringify(name)}; select.dispatchEvent(new Event("change")); })(document.getElementById("lesson"))`);
+    await this.select("lesson", name);
     await this.settled();
   }
   // What a tab shows.
@@ -51,7 +54,9 @@ class Driven {
   // Asks the picture's frame, whose document is `d`.
   frame(expression) { return this.ask(`(d => (${expression}))(document.getElementById("frame").contentDocument)`); }
   // Waits until the picture shows a run of so many turns.
-  drawn(turns) { return this.until(`document.getElementById("frame").contentDocument.getElementById("count")?.textContent.endsWith("of ${turns}")`); }
+  drawn(turns) {
+    return this.until(`document.getElementById("frame").contentDocument.getElementById("count")?.textContent.endsWith("of ${turns}")`);
+  }
   // The text of the file that a click hands out, and its name.
   file(id) {
     return this.ask(`new Promise(done => {

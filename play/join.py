@@ -18,10 +18,10 @@ import lessons
 
 GRAMMARS = {"program": "editors/vscode/syntaxes/rbl.tmLanguage.json", "schedule": "editors/vscode/syntaxes/rbl-schedule.tmLanguage.json"}
 # Each script stands on those before it: those that come before anything is seen, and those of the page. The worker's run in the engine's thread.
-FIRST_SCRIPTS = ["view/parts/palette.js", "play/page/keeping.js", "play/page/theme.js"]
+FIRST_SCRIPTS = ["view/parts/palette.js", "play/page/keeping.js", "play/page/theme.js", "play/page/packed.js"]
 SCRIPTS = [f"play/page/{name}.js" for name in (
-    "page", "packed", "bytes", "grammar", "editors", "marks", "thread", "reason", "outcome", "picture", "tabs", "running", "lessons", "links", "files",
-    "printing", "start")]
+    "page", "bytes", "grammar", "editors", "marks", "thread", "reason", "outcome", "picture", "tabs", "running", "lessons", "links",
+    "files", "printing", "start")]
 WORKER = ["play/engine.js", "play/page/packed.js", "play/page/worker.js"]
 
 
@@ -40,7 +40,8 @@ def packed(content):
 
 def unpacked(page):
     """A page with the hash of what is packed in each place: compressors differ, and what they pack does not."""
-    return re.sub(r'(<script type="application/octet-stream" id="\w+">)([^<]*)', lambda part: part[1] + hashlib.sha256(content_of(part[2])).hexdigest(), page)
+    packed_parts = r'(<script type="application/octet-stream" id="\w+">)([^<]*)'
+    return re.sub(packed_parts, lambda part: part[1] + hashlib.sha256(content_of(part[2])).hexdigest(), page)
 
 
 def content_of(text):
@@ -82,17 +83,19 @@ def scripts_of(page):
 def joined(module):
     """The page."""
     view, editor = text_of("view/page.html") + "\n", text_of("play/vendor/codemirror.min.js")
+    script = f'(function () {{\n"use strict";{together(SCRIPTS)}}})();\n'
     texts = {
         "STYLE": text_of("play/vendor/codemirror.css") + "\n" + text_of("play/page/style.css"),
         "HELP": text_of("play/page/help.html"),
         "LICENCE": html.escape(text_of("play/vendor/LICENSE")),
-        "MODULE": packed(module), "VIEW": packed(view.encode()), "EDITOR": packed(editor.encode()), "LESSONS": packed(data(lessons.lessons()).encode()),
+        "MODULE": packed(module), "VIEW": packed(view.encode()), "EDITOR": packed(editor.encode()),
+        "LESSONS": packed(data(lessons.lessons()).encode()),
         "GRAMMARS": data({name: json.loads(text_of(path)) for name, path in GRAMMARS.items()}),
         "FIRST": together(FIRST_SCRIPTS), "CHECKS": together(["play/page/checks.js"]), "WORKER": together(WORKER),
-        "SCRIPT": f'\n(function () {{\n"use strict";{together(SCRIPTS)}}})();\n',
+        "BEGIN": together(["play/page/begin.js"]), "PAGE": packed(script.encode()),
     }
     page = re.sub("%([A-Z]+)%", lambda mark: texts[mark[1]], text_of("play/page/shell.html")) + "\n"
-    return page.replace("@POLICY@", policy([*scripts_of(page), editor, *scripts_of(view)]), 1)
+    return page.replace("@POLICY@", policy([*scripts_of(page), script, editor, *scripts_of(view)]), 1)
 
 
 def check(path):

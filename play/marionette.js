@@ -3,11 +3,13 @@
 const child = require("child_process"), fs = require("fs"), net = require("net"), os = require("os"), path = require("path");
 const wait = milliseconds => new Promise(done => setTimeout(done, milliseconds));
 
+const PREFERENCES = [["marionette.port", 0], ["browser.shell.checkDefaultBrowser", false], ["datareporting.policy.dataSubmissionEnabled", false]];
+
 class Firefox {
   static async start(program) {
     const firefox = new Firefox();
     firefox.profile = fs.mkdtempSync(path.join(os.tmpdir(), "rbl-firefox-"));
-    fs.writeFileSync(path.join(firefox.profile, "user.js"), 'user_pref("marionette.port", 0);\nuser_pref("browser.shell.checkDefaultBrowser", false);\nuser_pref("datareporting.policy.dataSubmissionEnabled", false);\n');
+    fs.writeFileSync(path.join(firefox.profile, "user.js"), PREFERENCES.map(([name, value]) => `user_pref("${name}", ${value});\n`).join(""));
     const words = ["--headless", "--marionette", "--no-remote", "--profile", firefox.profile, "about:blank"];
     firefox.process = child.spawn(program, words, { stdio: "ignore" });
     await firefox.connect();

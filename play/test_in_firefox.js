@@ -2,12 +2,13 @@
 /* Tests the playground in Firefox: the trials that go in every browser, of a few lessons. FIREFOX may name the browser; RBL, RBLVIEW and
    PLAYGROUND are as in test_playground.js. */
 "use strict";
-const cases = require("../view/cases.js"), { Firefox } = require("./marionette.js"), { Driven, inTurn } = require("./driven.js"), trials = require("./trials.js");
+const cases = require("../view/cases.js"), { Firefox } = require("./marionette.js"), { Driven, inTurn } = require("./driven.js");
+const trials = require("./trials.js");
 
 async function main() {
   const page = new Driven(await Firefox.start(process.env.FIREFOX || "firefox-esr"));
-  const someLessons = () => trials.lessons(page, ["step3", "sorting", "voting"]);
-  await inTurn(page, [trials.opening, someLessons, trials.editing, trials.colours, trials.faults, trials.files, trials.links, trials.stopping, trials.mishaps]);
+  const { opening, lessons, ...others } = trials, someLessons = () => lessons(page, ["step3", "sorting", "voting"]);
+  await inTurn(page, [opening, someLessons, ...Object.values(others)]);
   await page.browser.stop();
   cases.end();
 }

@@ -5,7 +5,7 @@
 
    RBL and RBLVIEW may name the two programs, CHROMIUM the browser, PLAYGROUND another page than play/rbl.html. */
 "use strict";
-const http = require("http"), fs = require("fs"), path = require("path");
+const http = require("http"), fs = require("fs"), path = require("path"), zlib = require("zlib");
 const { Browser } = require("../view/browser.js"), cases = require("../view/cases.js");
 const { PAGE, OUT, example, addressOf, changedPage, same } = require("./native.js");
 const { Driven, inTurn, wait } = require("./driven.js"), trials = require("./trials.js");
@@ -34,21 +34,28 @@ class Chromium extends Browser {
 // The policy lets nothing out, from the page as from the picture's frame.
 async function nothingGoesOut(page) {
   await page.open(addressOf(PAGE));
+  const adds = (tag, has) => `w.document.body.append(Object.assign(w.document.createElement("${tag}"), ${JSON.stringify(has)}))`;
   const tries = {
-    fetch: "w.fetch('https://example.invalid/').catch(() => 0)", socket: "new w.WebSocket('wss://example.invalid/')", beacon: "w.navigator.sendBeacon('https://example.invalid/', 'a')",
-    image: "new w.Image().src = 'https://example.invalid/a.png'", frame: "w.document.body.append(Object.assign(w.document.createElement('iframe'), { src: 'https://example.invalid/' }))",
-    script: "w.document.body.append(Object.assign(w.document.createElement('script'), { src: 'https://example.invalid/a.js' }))",
-    inline: "w.document.body.append(Object.assign(w.document.createElement('script'), { textContent: 'broken = 1' }))", evaluation: "w.Function('return 1')",
-    style: "w.document.head.append(Object.assign(w.document.createElement('link'), { rel: 'stylesheet', href: 'https://example.invalid/a.css' }))",
+    fetch: "w.fetch('https://example.invalid/').catch(() => 0)", socket: "new w.WebSocket('wss://example.invalid/')",
+    beacon: "w.navigator.sendBeacon('https://example.invalid/', 'a')", image: "new w.Image().src = 'https://example.invalid/a.png'",
+    frame: adds("iframe", { src: "https://example.invalid/" }), script: adds("script", { src: "https://example.invalid/a.js" }),
+    inline: adds("script", { textContent: "broken = 1" }), evaluation: "w.Function('return 1')",
+    style: adds("link", { rel: "stylesheet", href: "https://example.invalid/a.css" }),
   };
   for (const [where, from] of [["the page", "window"], ["the frame", "document.getElementById('frame').contentWindow"]]) {
     for (const [what, act] of Object.entries(tries)) {
-      const refused = `new Promise(done => { const w = ${from}; w.document.addEventListener("securitypolicyviolation", () => done(true), { once: true }); setTimeout(() => done(false), 3000); setTimeout(() => { ${act}; }); })`;
-      same(`${what} from ${where} is refused`, await page.ask(refused), true);
+      const isRefused = await page.ask(`new Promise(done => {
+        const w = ${from};
+        w.document.addEventListener("securitypolicyviolation", () => done(true), { once: true });
+        setTimeout(() => done(false), 3000);
+        setTimeout(() => { ${act}; });
+      })`);
+      same(`${what} from ${where} is refused`, isRefused, true);
     }
   }
   same("nothing broke in", await page.ask("typeof broken"), "undefined");
-  same("nothing went out", page.browser.requests.filter(address => !/^(file|about|blob|data):|^https?:\/\/(127\.0\.0\.1|example\.invalid)/.test(address)).join(), "");
+  const isOwn = address => /^(file|about|blob|data):|^https?:\/\/(127\.0\.0\.1|example\.invalid)/.test(address);
+  same("nothing went out", page.browser.requests.filter(address => !isOwn(address)).join(), "");
 }
 
 // A browser that lacks something is told so; the texts that are there can be read.
@@ -59,8 +66,9 @@ async function oldBrowsers(page) {
     same(`without ${lacks}`, (await page.told("notice")).startsWith(`This browser has no ${lacks}, so it can not run the engine.`), true);
     await page.browser.send("Page.removeScriptToEvaluateOnNewDocument", { identifier });
   }
-  await page.open(addressOf(changedPage("unread", ["async function start() {", "async function start() }"])));
-  same("scripts that are not read", (await page.told("notice")).startsWith("This browser does not read the page's scripts, so it can not run the engine."), true);
+  const other = `id="page">${zlib.gzipSync("not ours").toString("base64")}</script><script type="text/plain">`;
+  await page.open(addressOf(changedPage("unread", ['id="page">', other])));
+  same("scripts that are not read", (await page.told("notice")).startsWith("This browser does not read the page's scripts, so it can not"), true);
 }
 
 // Files that are chosen: a text, one that is none, and one that is too long.
@@ -68,7 +76,8 @@ async function chosenFiles(page) {
   const give = async (name, content) => {
     const file = path.join(OUT, name);
     fs.writeFileSync(file, content);
-    const { root } = await page.browser.send("DOM.getDocument"), { nodeId } = await page.browser.send("DOM.querySelector", { nodeId: root.nodeId, selector: "#file" });
+    const { root } = await page.browser.send("DOM.getDocument");
+    const { nodeId } = await page.browser.send("DOM.querySelector", { nodeId: root.nodeId, selector: "#file" });
     await page.browser.send("DOM.setFileInputFiles", { files: [file], nodeId });
     await wait(300);
     await page.settled();
@@ -93,8 +102,10 @@ async function chosenFiles(page) {
 async function keyboard(page) {
   await page.open(addressOf(PAGE));
   const { nodes } = await page.browser.send("Accessibility.getFullAXTree");
-  const used = nodes.filter(node => !node.ignored && /^(button|combobox|textbox|tab|tablist|tabpanel|status|region|group|Iframe)$/.test(node.role?.value));
-  same("names", used.filter(node => !node.name?.value && !/status|group/.test(node.role.value)).map(node => node.role.value).join(), "");
+  const used = nodes.filter(node => !node.ignored && /^(button|combobox|textbox|tab|tablist|tabpanel|region|Iframe)$/.test(node.role?.value));
+  same("names", used.filter(node => !node.name?.value).map(node => node.role.value).join(), "");
+  const names = used.filter(node => node.role.value === "button").map(node => node.name.value);
+  same("no two buttons of one name", names.filter((name, k) => names.indexOf(name) < k).join(), "");
   same("a live outcome", await page.ask(`document.getElementById("outcome").getAttribute("aria-live")`), "polite");
   const reached = [];
   await page.ask("document.activeElement.blur()");
@@ -102,12 +113,15 @@ async function keyboard(page) {
     await page.browser.key("Tab");
     reached.push(await page.ask(`document.activeElement.id || document.activeElement.closest(".editor")?.id || document.activeElement.tagName`));
   }
-  for (const id of ["lesson", "run", "link", "whole", "theme", "programopen", "program", "schedule", "tab-picture", "frame"]) same(`the key Tab reaches ${id}`, reached.includes(id), true);
+  for (const id of ["lesson", "run", "link", "whole", "theme", "programopen", "program", "schedule", "tab-picture", "frame"]) {
+    same(`the key Tab reaches ${id}`, reached.includes(id), true);
+  }
   await page.ask(`document.getElementById("tab-picture").focus()`);
   const order = [];
   for (const key of ["ArrowRight", "ArrowRight", "End", "ArrowRight", "ArrowLeft", "Home"]) {
     await page.browser.key(key);
-    order.push(await page.ask(`document.querySelector("[role=tab][aria-selected=true]").id.slice(4) + (document.activeElement.getAttribute("aria-selected") === "true" ? "" : "!")`));
+    const chosen = `document.querySelector("[role=tab][aria-selected=true]")`;
+    order.push(await page.ask(`(tab => tab.id.slice(4) + (document.activeElement === tab ? "" : "!"))(${chosen})`));
   }
   same("arrow keys choose tabs", order.join(" "), "printed survivors listing picture listing picture");
   await page.ask(`${Driven.editor("schedule")}.focus()`);
@@ -123,8 +137,9 @@ async function looks(page) {
   same("a phone's width", await page.ask("document.documentElement.scrollWidth <= innerWidth"), true);
   await page.browser.shot("phone");
   await page.browser.size(1400, 900);
-  await page.ask(`(select => { select.value = "dark"; select.dispatchEvent(new Event("change")); })(document.getElementById("theme"))`);
-  same("dark colours in the picture", await page.until(`document.getElementById("frame").contentDocument.documentElement.dataset.theme === "dark"`), true);
+  await page.select("theme", "dark");
+  const isDark = `document.getElementById("frame").contentDocument.documentElement.dataset.theme === "dark"`;
+  same("dark colours in the picture", await page.until(isDark), true);
   await page.browser.shot("dark");
   await page.open(addressOf(PAGE), { isKept: true });
   same("the theme is kept", await page.ask("document.documentElement.dataset.theme"), "dark");
@@ -147,7 +162,8 @@ async function fromServer(page) {
 
 // How long it takes; other work on the machine makes it slower, so it is told, and judged with much room.
 async function speed(page) {
-  const { identifier } = await page.browser.send("Page.addScriptToEvaluateOnNewDocument", { source: `addEventListener("message", () => { window.drawnAt = window.drawnAt || performance.now(); })` });
+  const source = `addEventListener("message", () => { window.drawnAt = window.drawnAt || performance.now(); })`;
+  const { identifier } = await page.browser.send("Page.addScriptToEvaluateOnNewDocument", { source });
   const openings = [];
   for (let k = 0; k < 5; k++) {
     await page.open(addressOf(PAGE));
@@ -176,7 +192,7 @@ async function speed(page) {
 async function main() {
   const browser = await Chromium.begin(process.env.CHROMIUM || "chromium"), page = new Driven(browser);
   await browser.size(1400, 900);
-  await inTurn(page, [trials.opening, trials.lessons, trials.editing, trials.colours, trials.faults, trials.files, trials.manyTurns, trials.links, trials.stopping, trials.mishaps]);
+  await inTurn(page, Object.values(trials));
   await inTurn(page, [nothingGoesOut, oldBrowsers, chosenFiles, keyboard, looks, fromServer, speed]);
   same("no errors of scripts", browser.errors.filter(error => !/example\.invalid|EvalError/.test(error)).join("; "), "");
   await browser.stop();

@@ -5,8 +5,14 @@ const { Driven } = require("./driven.js");
 const fs = require("fs"), path = require("path"), zlib = require("zlib");
 
 const BOTH = ["program", "schedule"];
-const COMMANDS = { printed: ["run", BOTH], survivors: ["survive", BOTH], stuck: ["stuck", BOTH], listing: ["code", ["program"]] };
-const LONG = { program: "edition 2; program long; process p { var x; while 1 { x := sum i from 1 to 1000 : (sum j from 1 to 1000 : 1); } } end.\n", schedule: "p 1000000\n" };
+const COMMANDS = {
+  printed: ["run", BOTH], survivors: ["survive", BOTH], alone: ["plain", ["program", "record"]], stuck: ["stuck", BOTH],
+  listing: ["code", ["program"]],
+};
+const LONG = {
+  program: "edition 2; program long; process p { var x; while 1 { x := sum i from 1 to 1000 : (sum j from 1 to 1000 : 1); } } end.\n",
+  schedule: "p 1000000\n",
+};
 
 // What is seen first: step 4 of the walk, its schedule, and the picture of its run.
 async function opening(page) {
@@ -27,12 +33,16 @@ async function lessons(page, names) {
   const all = JSON.parse(zlib.gunzipSync(Buffer.from(await page.told("lessons"), "base64")));
   for (const { name, program, schedule, question } of names ? all.filter(one => names.includes(one.name)) : all) {
     await page.choose(name);
-    for (const [tab, [command, takes]] of Object.entries(COMMANDS)) same(`${command} ${name}`, await page.tab(tab), native("rbl", [command, ...takes], { program, schedule }).out);
+    const record = native("rbl", ["survive", ...BOTH], { program, schedule }).out;
+    for (const [tab, [command, takes]] of Object.entries(COMMANDS)) {
+      same(`${command} ${name}`, await page.tab(tab), native("rbl", [command, ...takes], { program, schedule, record }).out);
+    }
     same(`question of ${name}`, await page.told("question"), question);
     await page.tab("picture");
     const lines = native("rbl", ["run", ...BOTH], { program, schedule }).out, turns = /^end (\d+)$/m.exec(lines)[1];
     same(`picture of ${name}`, await page.drawn(turns), true);
-    same(`lines in the picture of ${name}`, (await page.frame(`[...d.querySelectorAll("#printed div")].map(row => row.textContent).join("\\n")`)).trim(), lines.trim());
+    const drawn = await page.frame(`[...d.querySelectorAll("#printed div")].map(row => row.textContent).join("\\n")`);
+    same(`lines in the picture of ${name}`, drawn.trim(), lines.trim());
   }
 }
 
@@ -46,9 +56,12 @@ async function editing(page) {
   same("the list says so", await page.ask(`document.getElementById("lesson").selectedOptions[0].textContent`), "your own, after step4");
   await page.tab("picture");
   await page.frame(`d.getElementById("last").click()`);
-  for (let turn = 60; turn > 22; turn = +(await page.frame(`d.getElementById("count").textContent`)).split(" ")[1]) await page.frame(`d.getElementById("back").click()`);
-  same("the turn that goes back", (await page.frame(`d.getElementById("says").textContent`)).slice(0, 53), "Turn 22: alternate 1 of the conversation Deal is reje");
-  same("its statement is marked", await page.until(`[...document.querySelectorAll("#program .place")].map(part => part.textContent).join("") === "ensure bid > 54 within 20"`), true);
+  const chosen = async () => +(await page.frame(`d.getElementById("count").textContent`)).split(" ")[1];
+  while (await chosen() > 22) await page.frame(`d.getElementById("back").click()`);
+  const says = await page.frame(`d.getElementById("says").textContent`);
+  same("the turn that goes back", says.startsWith("Turn 22: alternate 1 of the conversation Deal is rejected"), true);
+  const marked = `[...document.querySelectorAll("#program .place")].map(part => part.textContent).join("")`;
+  same("its statement is marked", await page.until(`${marked} === "ensure bid > 54 within 20"`), true);
   await page.type({ schedule: "all 31\n" });
   await page.drawn(62);
   same("the chosen turn stays", (await page.frame(`d.getElementById("count").textContent`)), "turn 22 of 62");
@@ -60,20 +73,25 @@ async function editing(page) {
 
 // The words are coloured by the grammar of editors/, in each edition.
 async function colours(page) {
+  const tokens = (name, line) => `${Driven.editor(name)}.getLineTokens(${line}).filter(token => token.type)`;
+  const told = (name, line) => page.ask(`${tokens(name, line)}.map(token => token.string + " " + token.type).join(", ")`);
   const styles = async (text, line) => {
     await page.type({ program: text });
-    return page.ask(`${Driven.editor("program")}.getLineTokens(${line}).filter(part => part.type).map(part => part.string + " " + part.type).join(", ")`);
+    return told("program", line);
   };
   same("words of recovery", await styles("program a;\nprocess p { ensure x > 10 within 9 by { fail; } } # all\nend.\n", 1),
     "process declaration, p def, ensure recovery, 10 number, within recovery, 9 number, by recovery, fail control, # all comment");
-  same("a text without an end", await styles('program a;\nprocess p { print "end", "end', 1), 'process declaration, p def, print control, "end" string, "end error');
+  same("a text without an end", await styles('program a;\nprocess p { print "end", "end', 1),
+    'process declaration, p def, print control, "end" string, "end error');
   same("names of edition 1", await styles("program a; process p { every := some; }", 0), "program declaration, a def, process declaration, p def");
   same("words of edition 2", await styles("edition 2; program a;\nprocess p { x := sum i from 1 to 9 : i; }", 1),
     "process declaration, p def, sum word, from declaration, 1 number, to declaration, 9 number");
   await page.type({ schedule: "all 3 # p\nbuyer 20" });
-  same("words of a schedule", await page.ask(`[0, 1].map(line => ${Driven.editor("schedule")}.getLineTokens(line).filter(part => part.type).map(part => part.string + " " + part.type).join(", ")).join("; ")`),
-    "all control, 3 number, # p comment; buyer def, 20 number");
-  same("how deep a line stands", await page.ask(`(editor => [0, 1, 2, 3].map(line => editor.getStateAfter(line, true).depth).join())((editor => { editor.setValue("program a; {\\n{ # {\\n\\"{\\"\\n}"); return editor; })(${Driven.editor("program")}))`), "1,2,2,1");
+  same("words of a schedule", await told("schedule", 0), "all control, 3 number, # p comment");
+  same("a process of a schedule", await told("schedule", 1), "buyer def, 20 number");
+  await page.type({ program: 'program a; {\n{ # {\n"{"\n}' });
+  const depths = await page.ask(`[0, 1, 2, 3].map(line => ${Driven.editor("program")}.getStateAfter(line, true).depth).join()`);
+  same("how deep a line stands", depths, "1,2,2,1");
 }
 
 // A fault in a text, and what is told of it.
@@ -103,7 +121,8 @@ async function faultyPlace(page, what, [text, line, column], says) {
 async function faults(page) {
   await page.choose("step1");
   const { program } = example("step1");
-  await fault(page, "a name that is none", { program: program.replace("price := 7;", "price := prise;") }, { at: ["program", 4, 12], marked: "prise" });
+  const slip = program.replace("price := 7;", "price := prise;");
+  await fault(page, "a name that is none", { program: slip }, { at: ["program", 4, 12], marked: "prise" });
   await page.browser.picture(path.join(OUT, `${page.browser.constructor.name}.fault.png`));
   await fault(page, "an early end", { program: "program a;\nprocess p {\n" }, { at: ["program", 3, 1], marked: "" });
   await fault(page, "a byte past ASCII", { program: "program a; process p { var x; x := 1 ; print \"\u00e4\"; } end.\n" }, { marked: "\u00e4\"" });
@@ -126,11 +145,16 @@ async function links(page) {
   same("the program of a link", await page.text("program"), program);
   same("the schedule of a link", await page.text("schedule"), schedule);
   same("the run of a link", await page.told("outcome"), "After 30 turns: p is done.");
+  same("a link takes nothing from what is kept", await page.ask(`localStorage.getItem("rbl.texts")`), null);
   await page.type({ program: program.replace("mine", "kept") });
   same("a changed text leaves the address", await page.ask("location.hash"), "");
   await page.open(addressOf(PAGE), { isKept: true });
   same("the last text is kept", await page.text("program"), program.replace("mine", "kept"));
-  for (const [what, hash] of [["cut", link.slice(link.indexOf("#"), -9)], ["no base64", "#text=%%%"], ["no texts", `#text=${zlib.deflateRawSync('{"a":1}').toString("base64url")}`], ["another", "#hello"]]) {
+  await page.open(addressOf(PAGE, "#example=voting"));
+  same("a link that names an example", await page.ask(`document.getElementById("lesson").value`), "voting");
+  const noTexts = `#text=${zlib.deflateRawSync('{"a":1}').toString("base64url")}`, cut = link.slice(link.indexOf("#"), -9);
+  const bad = { cut, "no base64": "#text=%%%", "no texts": noTexts, another: "#hello", "of no example": "#example=none" };
+  for (const [what, hash] of Object.entries(bad)) {
     await page.open(addressOf(PAGE, hash));
     same(`a link that is ${what}`, (await page.told("notice")).startsWith("The address of this page holds no program"), true);
     same(`the page goes on behind a link that is ${what}`, await page.told("outcome"), "After 60 turns: buyer and shop are done.");
@@ -160,12 +184,18 @@ async function stopping(page) {
 async function manyTurns(page) {
   const texts = { program: read("bench/one.rbl"), schedule: read("bench/one.schedule") };
   await page.type(texts);
-  same("a million turns are not drawn", /has [\d,]+ turns, and a run of up to 20,000 is drawn/.test(await page.told("picturenote")), true);
-  for (const [tab, command] of [["printed", "run"], ["stuck", "stuck"]]) same(`${command} of a million turns`, await page.tab(tab), native("rbl", [command, ...BOTH], texts).out);
+  same("a million turns are not drawn", /has [\d,]+ turns, and one of up to 20,000 turns is drawn/.test(await page.told("picturenote")), true);
+  for (const tab of ["printed", "stuck"]) {
+    const [command] = COMMANDS[tab];
+    same(`${command} of a million turns`, await page.tab(tab), native("rbl", [command, ...BOTH], texts).out);
+  }
   const record = native("rbl", ["survive", ...BOTH], texts).out, lines = record.split("\n"), shown = (await page.tab("survivors")).split("\n");
   same("the first of a million survivors", shown.slice(0, 1000).join("\n"), lines.slice(0, 1000).join("\n"));
   same("the last of them", shown.slice(-1000).join("\n"), lines.slice(-1000).join("\n"));
   same("what is left out", shown[1000], `… ${(lines.length - 2000).toLocaleString("en")} lines left out …`);
+  const alone = native("rbl", ["plain", "program", "record"], { ...texts, record });
+  same("a record that is too long", await page.tab("alone"), `${alone.out}\n${alone.reason}`);
+  await page.tab("survivors");
   await page.ask(`document.querySelector("#panel-survivors button").id = "saverecord"`);
   const [name, file] = await page.file("saverecord");
   same("all of them as a file", file === record && name, `${/program (\w+)/.exec(texts.program)[1]}.survive`);
@@ -191,7 +221,8 @@ async function mishaps(page) {
   await page.open(addressOf(changedPage("trapping", [calls, trap])));
   same("a trap is told", await page.tab("stuck"), "The engine broke down (RuntimeError: unreachable); another was started.");
   same("another engine runs", await page.tab("survivors"), native("rbl", ["survive", ...BOTH], example("step4")).out);
-  const wanting = calls.replace("engine.ask(program, words, texts)", `words[0] === "run" ? { status: 5, out: new Uint8Array(0), reason: new Uint8Array(0) } : engine.ask(program, words, texts)`);
+  const none = "{ status: 5, out: new Uint8Array(0), reason: new Uint8Array(0) }";
+  const wanting = calls.replace("engine.ask", `words[0] === "run" ? ${none} : engine.ask`);
   await page.open(addressOf(changedPage("wanting", [calls, wanting])));
   same("want of memory is told", await page.told("outcome"), "There is not enough memory for this run.");
   same("and the page goes on", await page.tab("stuck"), "ended\n");

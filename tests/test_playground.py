@@ -28,15 +28,23 @@ class Playground(Told):
     def test_lessons(self):
         """Each example and each classic is listed over each of its schedules, with a question, and nothing else is."""
         found = listed()
-        sources = [os.path.relpath(path, ROOT)[:-4] for folder in ("examples", "examples/classics") for path in glob.glob(os.path.join(ROOT, folder, "*.rbl"))]
-        schedules = {os.path.relpath(path, ROOT) for source in sources for path in glob.glob(os.path.join(ROOT, f"{source}.*schedule"))}
+        sources = [path[:-4] for folder in ("examples", "examples/classics") for path in glob.glob(os.path.join(ROOT, folder, "*.rbl"))]
+        schedules = {os.path.relpath(path, ROOT) for source in sources for path in glob.glob(f"{source}.*schedule")}
         self.assertEqual(set(found), schedules)
-        self.each([(path, one) for path, one in found.items()], lambda one: None if len(one["question"]) > 15 and one["title"] and one["program"] and one["schedule"] else f"it is {one}")
+        self.each(list(found.items()), lambda one: None if len(one["question"]) > 15 and one["title"] else f"it is asked {one['question']!r}")
+
+    def test_named(self):
+        """Each example that a page of docs/ opens in the playground is listed."""
+        names = {one["name"] for one in listed().values()}
+        pages = ["README.md"] + sorted(f"docs/{name}" for name in os.listdir(os.path.join(ROOT, "docs")) if name.endswith(".md"))
+        links = [(page, name) for page in pages for name in re.findall(r"play/rbl\.html#example=([\w.]+)", text_of(page))]
+        self.each([(f"{name} in {page}", name) for page, name in links], lambda name: None if name in names else "it is not listed")
 
     @unittest.skipUnless(HAS_PAGE, "no play/rbl.html here")
     def test_joined(self):
         """play/rbl.html is what play/join.py makes of the parts and the module that is in it."""
-        ran = subprocess.run([sys.executable, "-B", os.path.join(ROOT, "play/join.py"), "--check", PAGE], capture_output=True, text=True, check=False)
+        words = [sys.executable, "-B", os.path.join(ROOT, "play/join.py"), "--check", PAGE]
+        ran = subprocess.run(words, capture_output=True, text=True, check=False)
         self.assertEqual((ran.returncode, ran.stderr), (0, ""))
 
     @unittest.skipUnless(HAS_PAGE, "no play/rbl.html here")
@@ -50,9 +58,11 @@ class Playground(Told):
     @unittest.skipUnless(HAS_PAGE, "no play/rbl.html here")
     def test_policy(self):
         """The page's policy is the first thing that it says, and lets nothing out."""
-        policy = re.match(r'<!doctype html>\n<html [^>]*>\n<head>\n<meta charset="utf-8">\n<meta http-equiv="Content-Security-Policy" content="([^"]*)">', read(PAGE).decode())[1]
-        rules = dict(rule.split(" ", 1) for rule in policy.split("; "))
-        self.assertEqual((rules["default-src"], rules["connect-src"], rules["form-action"], rules["base-uri"], rules["worker-src"]), ("'none'", "'none'", "'none'", "'none'", "blob:"))
+        begin = r'<!doctype html>\n<html [^>]*>\n<head>\n<meta charset="utf-8">\n<meta http-equiv="Content-Security-Policy" content="([^"]*)">'
+        rules = dict(rule.split(" ", 1) for rule in re.match(begin, read(PAGE).decode())[1].split("; "))
+        for what in ("default-src", "connect-src", "form-action", "base-uri"):
+            self.assertEqual(rules[what], "'none'", what)
+        self.assertEqual(rules["worker-src"], "blob:")
         self.assertNotRegex(rules["script-src"], r"unsafe-inline|'unsafe-eval'|https?:|\*")
 
     def test_licence(self):

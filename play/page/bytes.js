@@ -8,4 +8,7 @@ function textOfFile(bytes) {
 }
 
 // The place in a line of its column, which counts bytes from 1.
-const placeOfColumn = (line, column) => new TextDecoder("utf-8", { ignoreBOM: true }).decode(new TextEncoder().encode(line).subarray(0, column - 1)).length;
+function placeOfColumn(line, column) {
+  const before = new TextEncoder().encode(line).subarray(0, column - 1);
+  return new TextDecoder("utf-8", { ignoreBOM: true }).decode(before).length;
+}

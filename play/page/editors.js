@@ -1,13 +1,16 @@
 /* The two editors. A text stays byte for byte as it was opened: only LF ends a line. */
 const editors = {};
+// The key Tab goes on to the next part of the page, as everywhere.
+const KEYS_OF_EDITORS = {
+  Tab: false, "Shift-Tab": false, "Ctrl-/": "toggleComment", "Cmd-/": "toggleComment", "Ctrl-Enter": () => runNow(), "Cmd-Enter": () => runNow(),
+};
 
 function makeEditor(name, title, grammar) {
   CodeMirror.defineMode(`rbl-${name}`, () => modeOf(grammar));
   editors[name] = CodeMirror(element(name), {
-    mode: `rbl-${name}`, theme: "rbl", lineNumbers: true, lineSeparator: "\n", lineWrapping: true, inputStyle: "contenteditable", screenReaderLabel: title, matchBrackets: true,
-    gutters: ["CodeMirror-linenumbers", "faults"], indentUnit: 2, dragDrop: false, maxHighlightLength: 20000,
-    // The key Tab goes on to the next part of the page, as everywhere.
-    extraKeys: { Tab: false, "Shift-Tab": false, "Ctrl-/": "toggleComment", "Cmd-/": "toggleComment", "Ctrl-Enter": () => runNow(), "Cmd-Enter": () => runNow() },
+    mode: `rbl-${name}`, theme: "rbl", lineNumbers: true, lineSeparator: "\n", lineWrapping: true, inputStyle: "contenteditable",
+    screenReaderLabel: title, matchBrackets: true, gutters: ["CodeMirror-linenumbers", "faults"], indentUnit: 2, dragDrop: false,
+    maxHighlightLength: 20000, extraKeys: KEYS_OF_EDITORS,
   });
   editors[name].on("change", (_, change) => {
     if (change.origin === "setValue") return;

@@ -1,6 +1,7 @@
 /* Texts from files, and to files. */
 const ENDINGS = { program: ".rbl", schedule: ".schedule" };
-const nameOfProgram = () => (/^\s*(?:#.*\s+)*(?:edition\s+\d+\s*;\s*)?(?:#.*\s+)*program\s+([A-Za-z]\w*)/.exec(textIn("program")) || ["", "program"])[1];
+const NAMED = /^\s*(?:edition\s+\d+\s*;\s*)?program\s+([A-Za-z]\w*)/;
+const nameOfProgram = () => (NAMED.exec(textIn("program").replace(/#.*/g, "")) || ["", "program"])[1];
 
 // A file becomes a text, if it is one.
 async function openFile(name, file) {

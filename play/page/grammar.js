@@ -1,7 +1,8 @@
 /* Colours of a text, by the grammar that editors/ has for it: a line is cut by the rule that matches first, as the other editors do it. */
 const STYLES = [
-  ["comment", "comment"], ["string", "string"], ["invalid", "error"], ["keyword.declaration", "declaration"], ["keyword.control.recovery", "recovery"],
-  ["keyword.control", "control"], ["keyword.operator.word", "word"], ["keyword.operator.quantifier", "word"], ["constant.numeric", "number"], ["entity.name", "def"],
+  ["comment", "comment"], ["string", "string"], ["invalid", "error"], ["keyword.declaration", "declaration"],
+  ["keyword.control.recovery", "recovery"], ["keyword.control", "control"], ["keyword.operator.word", "word"],
+  ["keyword.operator.quantifier", "word"], ["constant.numeric", "number"], ["entity.name", "def"],
 ];
 const styleOf = scope => (STYLES.find(([begins]) => scope && scope.startsWith(begins)) || ["", null])[1];
 
@@ -11,7 +12,8 @@ function rulesOf(grammar, patterns) {
     if (include) return rulesOf(grammar, [grammar.repository[include.slice(1)]]);
     if (inner && !begin) return rulesOf(grammar, inner);
     const styles = Object.entries(captures || beginCaptures || {}).map(([group, capture]) => [+group, styleOf(capture.name)]);
-    return [{ pattern: new RegExp(begin || match, "dg"), styles: styles.length ? styles : [[0, styleOf(name)]], region: begin ? rulesOf(grammar, inner) : null }];
+    const region = begin ? rulesOf(grammar, inner) : null;
+    return [{ pattern: new RegExp(begin || match, "dg"), styles: styles.length ? styles : [[0, styleOf(name)]], region }];
   });
 }
 
@@ -35,7 +37,10 @@ function cutLine(line, state) {
   for (let found = firstMatch(state.rules, line, at); found; found = firstMatch(state.rules, line, at)) {
     const { rule, match } = found;
     between(at, match.index);
-    for (const [group, style] of rule.styles) if (match.indices[group]) pieces.push({ from: match.indices[group][0], to: match.indices[group][1], style });
+    for (const [group, style] of rule.styles) {
+      const [from, to] = match.indices[group] || [0, 0];
+      if (from < to) pieces.push({ from, to, style });
+    }
     at = match.index + match[0].length;
     if (rule.region) state.rules = rule.region;
   }

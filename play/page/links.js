@@ -12,8 +12,8 @@ async function linkOf({ program, schedule }) {
 async function textsOfLink(hash) {
   try {
     const bytes = await unpacked(hash.slice(BEGIN.length).replace(/-/g, "+").replace(/_/g, "/"), "deflate-raw", MOST_OF_LINK);
-    const given = JSON.parse(textOfFile(bytes));
-    if (Array.isArray(given) && given.length === 2 && given.every(text => typeof text === "string")) return { program: given[0], schedule: given[1] };
+    const [program, schedule, ...more] = JSON.parse(textOfFile(bytes));
+    if (typeof program === "string" && typeof schedule === "string" && !more.length) return { program, schedule };
   } catch (fault) { /* it holds no texts */ }
   return null;
 }
@@ -21,10 +21,11 @@ async function textsOfLink(hash) {
 // Takes what the address holds; false where it holds nothing that can be taken.
 async function followAddress() {
   if (location.hash.length < 2) return false;
-  const named = location.hash.startsWith(EXAMPLE) && LESSONS.find(one => EXAMPLE + one.name === location.hash);
+  const named = location.hash.startsWith(EXAMPLE) && lessons.find(one => EXAMPLE + one.name === location.hash);
   const given = named || (location.hash.startsWith(BEGIN) ? await textsOfLink(location.hash) : null);
   if (given) {
     notice("");
+    lesson = null;
     putTexts(given);
     return true;
   }
@@ -46,6 +47,11 @@ async function showLink() {
   element("linkbox").hidden = false;
   text.select();
   text.focus();
+}
+
+function hideLink() {
+  element("linkbox").hidden = true;
+  element("link").focus();
 }
 
 async function copyLink() {

@@ -14,9 +14,11 @@ function placeOf({ text, line, column }) {
 function markFault(fault) {
   const { editor, from } = placeOf(fault), end = editor.getLine(from.line).length;
   const token = editor.getTokenAt({ line: from.line, ch: Math.min(end, from.ch + 1) });
-  const to = { line: from.line, ch: Math.max(from.ch + 1, Math.min(end, token.end)) }, begin = from.ch < end ? from : { line: from.line, ch: Math.max(0, end - 1) };
+  const begin = { line: from.line, ch: Math.min(from.ch, Math.max(0, end - 1)) };
+  const to = { line: from.line, ch: Math.max(from.ch + 1, Math.min(end, token.end)) };
+  const beside = made("span", { class: "beside", "aria-hidden": "true" }, `${fault.name}: ${fault.says}`);
   marked.push(editor.markText(begin, to, { className: "faulty" }));
-  marked.push(editor.setBookmark({ line: from.line, ch: end }, { widget: made("span", { class: "beside", "aria-hidden": "true" }, `${fault.name}: ${fault.says}`), insertLeft: true }));
+  marked.push(editor.setBookmark({ line: from.line, ch: end }, { widget: beside, insertLeft: true }));
   editor.setGutterMarker(from.line, "faults", made("span", { class: "sign", title: fault.says }, "●"));
 }
 

@@ -4,6 +4,9 @@ const MOST_NAMED = 6;
 // How many turns a run had, by what it printed.
 const turnsOf = printed => +(/^end (\d+)$/m.exec(printed.slice(printed.lastIndexOf("\nend ") + 1)) || [0, 0])[1];
 
+// How a process ends, as it is printed, and in words of one and of more.
+const ENDS = [["done$", "is done", "are done"], ["failed$", "has failed", "have failed"], ["open \\d+$", "is still open", "are still open"]];
+
 // The names of the processes that ended so.
 function named(ending, how, one, more) {
   const names = [...ending.matchAll(new RegExp(`^(\\w+) ${how}`, "gm"))].map(([, name]) => name);
@@ -13,7 +16,7 @@ function named(ending, how, one, more) {
 
 function endInWords(printed) {
   const ending = printed.slice(printed.lastIndexOf("\nend ") + 1);
-  const ends = [...named(ending, "done$", "is done", "are done"), ...named(ending, "failed$", "has failed", "have failed"), ...named(ending, "open \\d+$", "is still open", "are still open")];
+  const ends = ENDS.flatMap(end => named(ending, ...end));
   return `After ${many(turnsOf(printed), "turn")}: ${ends.join("; ")}.`;
 }
 
@@ -23,7 +26,7 @@ function outcomeInWords(told, found) {
   if (told.isStopped) return "Stopped.";
   if (told.fault) return `The engine broke down (${told.fault}); another was started.`;
   if (told.status === 0) return endInWords(textOfBytes(told.out));
-  if (found) return `Refused: ${found.name}${found.line ? ` at line ${found.line} of the ${found.text}` : ` in the ${found.text}`}.`;
+  if (found && found.name) return `Refused: ${found.name}${found.line ? ` at line ${found.line} of the ${found.text}` : ` in the ${found.text}`}.`;
   return STATUSES[told.status] || `It ended with status ${told.status}.`;
 }
 

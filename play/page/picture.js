@@ -1,5 +1,7 @@
 /* The picture of a run: the page of view/ in a frame, which is told each run and draws it. */
 const MOST_DRAWN = 20000;
+const LONG = `one of up to ${many(MOST_DRAWN, "turn")} is drawn. The other tabs tell of it.`;
+const OLD = "This is the picture of the last run, before the texts were changed.";
 const picture = { frame: null, isReady: null, run: null };
 
 // The frame, empty at first.
@@ -28,9 +30,9 @@ function notePicture(says) {
 async function fillPicture(tab, run) {
   const told = await run.answer("run", BOTH);
   if (run !== current || picture.run === run) return;
-  if (told.status !== 0) return notePicture(picture.run ? "This is the picture of the last run, before the texts were changed." : "There is no run to draw.");
+  if (told.status !== 0) return notePicture(picture.run ? OLD : "There is no run to draw.");
   const turns = turnsOf(textOfBytes(told.out));
-  if (turns > MOST_DRAWN) return notePicture(`This run has ${many(turns, "turn")}, and a run of up to ${MOST_DRAWN.toLocaleString("en")} is drawn; the other tabs tell of it.`);
+  if (turns > MOST_DRAWN) return notePicture(`This run has ${many(turns, "turn")}, and ${LONG}`);
   const trace = await run.answer("trace", BOTH, "rblview");
   if (run !== current) return;
   if (trace.status !== 0) return notePicture("This run is not drawn.");

@@ -13,8 +13,14 @@ class Run {
     this.answers = new Map();
   }
   answer(command, takes, program = "rbl") {
-    if (!this.answers.has(command)) this.answers.set(command, ask(program, [command, ...takes], takes.map(name => this.texts[name])));
+    if (!this.answers.has(command)) this.answers.set(command, this.#answered(command, takes, program));
     return this.answers.get(command);
+  }
+  // The text `record` is what `survive` prints of the others.
+  async #answered(command, takes, program) {
+    const record = takes.includes("record") ? await this.answer("survive", BOTH) : null;
+    if (record && record.status !== 0) return record;
+    return ask(program, [command, ...takes], takes.map(name => name === "record" ? record.out : this.texts[name]));
   }
 }
 
@@ -29,6 +35,7 @@ async function ask(program, words, given) {
 
 function showBusy() {
   const isBusy = pending > 0 && performance.now() - busySince >= PATIENCE;
+  if (!isBusy && document.activeElement === element("stop")) element("run").focus();
   element("stop").hidden = !isBusy;
 }
 
@@ -40,7 +47,6 @@ function changed() {
   setSettled(false);
   clearTimeout(timer);
   timer = setTimeout(run, Math.max(SOON, Math.min(LATE, lastTook / 4)));
-  keep("texts", JSON.stringify(texts()));
   showWhichLesson();
 }
 
@@ -54,6 +60,7 @@ async function run() {
   clearTimeout(timer);
   setSettled(false);
   const mine = current = new Run(texts()), from = performance.now();
+  if (location.hash.length < 2) keep("texts", JSON.stringify(mine.texts)); // those of a link are kept by it
   for (const end = performance.now() + PATIENCE; thread.isBusy && performance.now() < end;) await wait(10);
   if (mine !== current) return;
   if (thread.isBusy) thread.stop();

@@ -1,8 +1,9 @@
 /* The page begins. */
 function listen() {
   const does = {
-    run: runNow, stop, link: showLink, linkcopy: copyLink, linkclose: () => { element("linkbox").hidden = true; element("link").focus(); }, whole: downloadWhole,
-    programopen: () => chooseFile("program"), programsave: () => saveFile("program"), scheduleopen: () => chooseFile("schedule"), schedulesave: () => saveFile("schedule"),
+    run: runNow, stop, link: showLink, linkcopy: copyLink, linkclose: hideLink, whole: downloadWhole,
+    programopen: () => chooseFile("program"), programsave: () => saveFile("program"),
+    scheduleopen: () => chooseFile("schedule"), schedulesave: () => saveFile("schedule"),
     faultplace: () => { if (fault.now && fault.now.line) goTo(fault.now); },
   };
   for (const [id, act] of Object.entries(does)) element(id).addEventListener("click", () => act());
@@ -24,35 +25,26 @@ function textsKept() {
   } catch (none) { return null; }
 }
 
-// The editor is a script of its own, which the page's policy knows.
-function addScript(text) {
-  const script = document.createElement("script");
-  script.textContent = text;
-  document.head.append(script);
-}
-
 async function start() {
-  thread = new Thread(element("worker").textContent, element("module").textContent);
+  thread = new Thread(element("worker").textContent, element("module").textContent, made => { element("made").textContent = made; });
   thread.begin();
-  const [editor, view, lessons] = await Promise.all(["editor", "view", "lessons"].map(id => unpacked(element(id).textContent)));
+  const [editor, view, list] = await Promise.all(["editor", "view", "lessons"].map(textPacked));
   picture.page = view;
   makeTabs();
-  makePicture(textOfBytes(view));
-  addScript(textOfBytes(editor));
+  makePicture(view);
+  addScript(editor);
   const grammars = JSON.parse(element("grammars").textContent);
   makeEditor("program", "the program", grammars.program);
   makeEditor("schedule", "the schedule", grammars.schedule);
-  makeLessons(JSON.parse(textOfBytes(lessons)));
+  makeLessons(JSON.parse(list));
   listen();
-  if (!await followAddress()) putTexts(textsKept() || LESSONS.find(one => one.name === FIRST));
+  if (!await followAddress()) putTexts(textsKept() || lessons.find(one => one.name === FIRST));
   await runNow();
   document.documentElement.dataset.ready = "yes";
 }
 
 document.documentElement.dataset.began = "yes";
-if (!LACKS) {
-  start().catch(fault => {
-    notice(`This page could not begin: ${fault}`);
-    document.documentElement.dataset.ready = "no";
-  });
-}
+start().catch(fault => {
+  notice(`This page could not begin: ${fault}`);
+  document.documentElement.dataset.ready = "no";
+});

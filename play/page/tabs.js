@@ -1,10 +1,20 @@
-/* What is shown of a run: a row for each tab. One with a `command` shows what this command of `rbl` prints over the texts that it `takes`; a row
-   can name another `program`. */
+/* What is shown of a run: a row for each tab. One with a `command` shows what this command of `rbl` prints over the texts that it `takes`, of
+   which `record` is what `survive` prints; a row can name another `program`. */
 const BOTH = ["program", "schedule"];
 const TABS = [
   { id: "picture", title: "Picture", fill: fillPicture },
-  { id: "printed", title: "What it prints", command: "run", takes: BOTH, says: "The lines of the run, each behind the number of its turn, and how it ends." },
-  { id: "survivors", title: "Survivors", command: "survive", takes: BOTH, says: "The turns that stood, as a record: what was undone has left no trace." },
+  {
+    id: "printed", title: "What it prints", command: "run", takes: BOTH,
+    says: "The lines of the run, each behind the number of its turn, and how it ends.",
+  },
+  {
+    id: "survivors", title: "Survivors", command: "survive", takes: BOTH,
+    says: "The turns that stood, as a record: what was undone has left no trace.",
+  },
+  {
+    id: "alone", title: "Run alone", command: "plain", takes: ["program", "record"],
+    says: "The turns that stood, run alone, with nothing ever rejected: they print the same lines, and end with the same values.",
+  },
   { id: "stuck", title: "Stuck?", command: "stuck", takes: BOTH, says: "Whether anything can still go on after the turns of the schedule." },
   { id: "listing", title: "Listing", command: "code", takes: ["program"], says: "The instructions that the program is compiled to." },
 ];
@@ -27,7 +37,9 @@ async function fillText(tab, run) {
   const told = await run.answer(tab.command, tab.takes, tab.program);
   if (run !== current) return;
   const isPrinted = Boolean(told.out && (told.status === 0 || told.out.length));
-  text.textContent = isPrinted ? shortened(textOfBytes(told.out)) : outcomeInWords(told, null);
+  // Why a run is refused stands beside the texts; why this command alone refuses something, here.
+  const why = isPrinted && !fault.now ? textOfBytes(told.reason) : "";
+  text.textContent = isPrinted ? shortened(textOfBytes(told.out)) + (why && `\n${why}`) : outcomeInWords(told, null);
   panel.querySelector("button").onclick = () => download(`${nameOfProgram()}.${tab.command}`, "text/plain", told.out);
   panel.querySelector("button").hidden = !isPrinted;
   panel.classList.remove("old");
@@ -60,7 +72,8 @@ function makeTabs() {
     const panel = made("div", { role: "tabpanel", id: `panel-${tab.id}`, "aria-labelledby": `tab-${tab.id}` });
     element("panels").append(panel);
     if (tab.fill) continue;
-    panel.append(made("p", { class: "note" }, tab.says), made("pre", { tabindex: 0, role: "group", "aria-label": tab.title }), made("button", {}, "Save"));
+    const text = made("pre", { tabindex: 0, role: "group", "aria-label": tab.title });
+    panel.append(made("p", { class: "note" }, tab.says), text, made("button", { "aria-label": `Save what ${tab.command} prints` }, "Save"));
   }
   element("tabs").addEventListener("keydown", event => {
     if (!Object.hasOwn(KEYS_OF_TABS, event.key)) return;

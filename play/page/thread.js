@@ -5,8 +5,11 @@ class Thread {
   #module = null;
   #worker = null;
   #asked = [];
+  #tell;
 
-  constructor(script, packed) {
+  // `tell` is told what the module says of itself, once it is compiled.
+  constructor(script, packed, tell) {
+    this.#tell = tell;
     this.#address = URL.createObjectURL(new Blob([script], { type: "text/javascript" }));
     this.#packed = packed;
   }
@@ -23,7 +26,7 @@ class Thread {
     this.#worker.postMessage(this.#module ? { module: this.#module } : { packed: this.#packed });
   }
 
-  /* What a program answers: `{ status, out, reason, took }`; or `{ fault }` in words where the engine broke down, or `{ isStopped }`. */
+  /* What a program answers: `{ status, out, reason }`; or `{ fault }` in words where the engine broke down, or `{ isStopped }`. */
   ask(program, words, texts = []) {
     this.begin();
     return new Promise(done => {
@@ -34,7 +37,7 @@ class Thread {
 
   #compiled({ module, made }) {
     this.#module = module;
-    element("made").textContent = made;
+    this.#tell(made);
   }
 
   #answered(answer) {

@@ -4,7 +4,10 @@ const LARGE = 1 << 26;
 let engineModule = null, engine = null, last = Promise.resolve();
 
 // The module is compiled while it is unpacked.
-const compiled = packed => WebAssembly.compileStreaming(new Response(through(bytesOfBase64(packed), new DecompressionStream("gzip")), { headers: { "Content-Type": "application/wasm" } }));
+function compiled(packed) {
+  const stream = through(bytesOfBase64(packed), new DecompressionStream("gzip"));
+  return WebAssembly.compileStreaming(new Response(stream, { headers: { "Content-Type": "application/wasm" } }));
+}
 
 async function begin({ packed, module }) {
   engineModule = module || await compiled(packed);
@@ -12,11 +15,10 @@ async function begin({ packed, module }) {
 }
 
 function answer({ program, words, texts }) {
-  const from = performance.now();
   engine = engine || new Engine(new WebAssembly.Instance(engineModule, {}));
   const told = engine.ask(program, words, texts);
   if (engine.memory > LARGE) engine = null;
-  postMessage({ ...told, took: performance.now() - from }, [told.out.buffer, told.reason.buffer]);
+  postMessage(told, [told.out.buffer, told.reason.buffer]);
 }
 
 onmessage = ({ data }) => {

@@ -9,7 +9,7 @@ export NODE_PATH=/usr/share/nodejs
 for part in lib/codemirror addon/edit/matchbrackets addon/comment/comment; do
     terser "$from/$part.js" --compress --mangle --format ascii_only=true,comments=false && echo || exit 1
 done >"$here/codemirror.min.js"
-cp "$from/lib/codemirror.css" "$here/codemirror.css"
+tr '\n' ' ' <"$from/lib/codemirror.css" | sed 's@/\*[^*]*\*\+\([^/*][^*]*\*\+\)*/@@g; s/  */ /g; s/ *\([{};,]\) */\1/g; s/}/}\n/g' >"$here/codemirror.css"
 # Of Debian's file: the copyright, and the licence, whose paragraph comes last.
 {
     sed -n '/^Files: \*/,/^$/p' /usr/share/doc/libjs-codemirror/copyright
