@@ -22,7 +22,7 @@ text{font:11px system-ui,"Segoe UI",Arial,sans-serif;fill:var(--ink)}
 .send{fill:var(--message)} .take{fill:var(--back);stroke:var(--message);stroke-width:1.5}
 .wait{stroke:var(--soft);stroke-width:2.6;stroke-linecap:round;fill:none} .atline{stroke:var(--good);stroke-width:1.8;fill:none} .idle{fill:var(--faint)}
 .cross{stroke:var(--bad);stroke-width:2.6;fill:none;stroke-linecap:round} .future{stroke:var(--faint);stroke-width:1.4}
-.gone .took,.gone .point,.gone .holds,.gone .send{fill:var(--dead)} .gone .ring,.gone .take{stroke:var(--dead);fill:var(--gone0)} .gone .wait,.gone .atline{stroke:var(--dead)}
+.took.gone,.point.gone,.holds.gone,.send.gone{fill:var(--dead)} .ring.gone,.take.gone{stroke:var(--dead);fill:var(--gone0)} .wait.gone,.atline.gone{stroke:var(--dead)}
 .strike{stroke:var(--grey);stroke-width:1.4}
 .bracket{fill:none;stroke:var(--ink);stroke-width:2} .bracket.gone{stroke:var(--grey);stroke-dasharray:3 2.5;stroke-width:1.1} .bracket.good{stroke:var(--good);stroke-width:1.5}
 .number{font-size:10.5px;font-weight:650} .number.gone{fill:var(--soft);font-weight:400;text-decoration:line-through} .number.good{fill:var(--good)}
@@ -39,14 +39,34 @@ text{font:11px system-ui,"Segoe UI",Arial,sans-serif;fill:var(--ink)}
 .printed{font-size:10.5px;font-family:ui-monospace,Consolas,monospace;paint-order:stroke;stroke:var(--back);stroke-width:3px;stroke-linejoin:round}
 .finish{stroke:var(--ink);stroke-width:3} .failed{fill:var(--bad);font-weight:650}
 .now{stroke:var(--ink);stroke-width:1.2} .nowbox{fill:var(--ink)} .nowtext{fill:var(--back);font-weight:650;text-anchor:middle;font-size:10.5px}
+.full{fill:var(--took)} .full.gone{fill:var(--grey)} .full.waits{fill:var(--soft);fill-opacity:.38} .full.back,.full.bad{fill:var(--bad)} .full.good{fill:var(--good)}
+.later{stroke:var(--faint);stroke-width:1.4;stroke-dasharray:2 4;fill:none} .asked{fill:var(--amber)} .pale{fill-opacity:.35}
+.veil{fill:var(--back);fill-opacity:.78;pointer-events:none} .cut{fill:none;stroke:var(--took);stroke-width:2.2;stroke-dasharray:6 3;pointer-events:none}
+.parting{fill:none;stroke:var(--amber);stroke-width:2} .parting.first{stroke-width:3}
+.partingtext{fill:var(--amber);font-weight:650;font-size:10.5px;paint-order:stroke;stroke:var(--back);stroke-width:3px;stroke-linejoin:round}
+.ringpaper{fill:var(--back);fill-opacity:.93;stroke:var(--bad);stroke-width:1.2;stroke-dasharray:4 3} .ringpaper.soon{stroke:var(--amber)}
+.waitsfor{fill:none;stroke:var(--bad);stroke-width:2.4} .waitshead{fill:var(--bad)} .waiter{fill:var(--back);stroke:var(--bad);stroke-width:2.2}
+.ringtext{fill:var(--bad);font-weight:650;font-size:10.5px} .waitsfor.soon,.waiter.soon{stroke:var(--amber)} .waitshead.soon,.ringtext.soon{fill:var(--amber)}
+.runname{font-weight:650;font-size:10.5px;fill:var(--soft);paint-order:stroke;stroke:var(--back);stroke-width:3px} .between{stroke:var(--soft);stroke-width:1.5;fill:none}
 .nowcolumn{fill:var(--changed);fill-opacity:.6;pointer-events:none} .tail{fill:var(--panel)}`;
+
+// Where the reader's system sets the colours, they are those of its names.
+const SYSTEM_COLOURS = {
+  back: "Canvas", panel: "Canvas", ink: "CanvasText", soft: "CanvasText", faint: "GrayText", line: "GrayText", grey: "GrayText", dead: "GrayText",
+  took: "CanvasText", bad: "Highlight", good: "CanvasText", point: "CanvasText", message: "CanvasText", amber: "Highlight",
+  field0: "Canvas", field1: "Canvas", field2: "Canvas", gone0: "Canvas", gone1: "Canvas", gone2: "Canvas", changed: "Canvas", chosen: "Canvas",
+};
+
+const coloursOf = palette => Object.entries(palette).map(([name, colour]) => `--${name}:${colour}`).join(";");
 
 // The colours of both themes, and the style of what is drawn: put into the page, which has a theme.
 function addStyle() {
-  const colours = Object.entries(PALETTES).map(([theme, palette]) => `[data-theme=${theme}]{${Object.entries(palette).map(([name, colour]) => `--${name}:${colour}`).join(";")}}`);
-  const paper = `@media print{html[data-theme]{${Object.entries(PALETTES.light).map(([name, colour]) => `--${name}:${colour}`).join(";")}}}`;
-  const drawn = PICTURE_STYLE.replace(/([^{}]+)(\{[^}]*\})/g, (_, names, rest) => names.split(",").map(name => `.drawn ${name.trim()}`).join(",") + rest);
+  const colours = Object.entries(PALETTES).map(([theme, palette]) => `[data-theme=${theme}]{${coloursOf(palette)}}`);
+  const forced = `@media (forced-colors:active){html[data-theme]{${coloursOf(SYSTEM_COLOURS)}}}`;
+  const paper = `@media print{html[data-theme]{${coloursOf(PALETTES.light)}}}`;
+  const inDrawn = names => names.split(",").map(name => `.drawn ${name.trim()}`).join(",");
+  const drawn = PICTURE_STYLE.replace(/([^{}]+)(\{[^}]*\})/g, (_, names, rest) => inDrawn(names) + rest);
   const style = document.createElement("style");
-  style.textContent = [...colours, paper, drawn].join("\n");
+  style.textContent = [...colours, forced, paper, drawn].join("\n");
   document.head.appendChild(style);
 }

@@ -36,6 +36,11 @@ const THINGS = {
   out([turn, process]) {
     return `Turn ${turn}: ${run.outs.filter(o => o.turn === +turn && o.process === +process).map(o => `“${o.text}” comes out of ${nameOf(o.process)}`).join("; ")}.`;
   },
+  ring: (_, t) => ringWords(t).trim(),
+  parting([k]) {
+    const { process, step, turns } = PARTINGS[k], { name } = RUNS[0].processes[process];
+    return `Up to here ${name} has done the same in both runs. At its step ${step} it does another thing: in turn ${turns[0]} of the first, in turn ${turns[1]} of the second.`;
+  },
 };
 
 function messageWords(message, receipt, t) {
