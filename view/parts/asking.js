@@ -1,37 +1,36 @@
 /* One question at a time: about a variable, a line of the source, a message, or whatever is looked for. Its answer is some turns; one goes from one
    to the next, they are marked in the picture, and playing stops at them. It is asked anew of a run that takes the place of another. */
-const undoneOf = turns => turns.filter(turn => run.undoneIn[turn] !== undefined).length;
-const countedTurns = (turns, one) => {
-  const undone = undoneOf(turns);
-  return `${many(turns.length, one)}${undone ? `, ${grouped(undone)} undone` : ""}`;
-};
+const counted = (count, one, undone) => `${many(count, one)}${undone ? `, ${grouped(undone)} undone` : ""}`;
+const countedTurns = turns => counted(turns.length, "turn", turns.filter(turn => run.undoneIn[turn] !== undefined).length);
 
 const ANSWERS = {
   variable({ process, name, index }) {
     const p = run.numberOf.process.get(process), variable = p === undefined ? null : run.processes[p].variables.find(v => v.name === name);
     if (!variable || index >= variable.values.length) return null;
     const values = variable.values[index], turns = values.turns.slice(1), label = variable.size === null ? name : `${name}[${index}]`;
-    return { title: `${label} of ${process}`, note: countedTurns(turns, "change"), turns, values, label };
+    const undone = Model.changesOf(run, values).filter(change => change.undoneIn).length;
+    return { title: `${label} of ${process}`, note: counted(turns.length, "change", undone), turns, values, label };
   },
   line({ line }) {
     const turns = Model.turnsOfLine(run, line);
-    return { title: `Line ${line}`, note: turns.length ? countedTurns(turns, "turn") : "no turn carried it out", turns };
+    return { title: `Line ${line}`, note: turns.length ? countedTurns(turns) : "no turn carried it out", turns };
   },
   message({ id }) {
     const message = run.messages[id];
     if (!message) return null;
     const turns = [message.sent, ...message.receipts.flatMap(r => [r.taken, r.back]), message.back].filter(turn => turn > 0);
     const taken = message.receipts.map(r => `received in turn ${r.taken}${r.back ? `, undone in ${r.back}` : ""}`);
-    const note = [`sent in turn ${message.sent}`, ...(taken.length ? taken : ["never received"]), ...(message.back ? [`taken back in ${message.back}`] : [])];
-    return { title: `${message.value} on ${run.channels[message.channel].name}`, note: note.join("; "), turns: [...new Set(turns)].sort((a, b) => a - b) };
+    const back = message.back ? [`taken back in ${message.back}`] : [], notes = [`sent in turn ${message.sent}`, ...(taken.length ? taken : ["never received"]), ...back];
+    const title = `${message.value} on ${run.channels[message.channel].name}`;
+    return { title, note: notes.join("; "), turns: [...new Set(turns)].sort((a, b) => a - b) };
   },
   find({ text }) {
     const turns = Model.turnsFound(run, text, CAUSES).filter(turn => turn <= LAST);
-    return { title: `“${text}”`, note: turns.length ? countedTurns(turns, "turn") : "found in no turn", turns };
+    return { title: `“${text}”`, note: turns.length ? countedTurns(turns) : "found in no turn", turns };
   },
 };
 
-const isAsked = (kind, key) => Boolean(state.asked) && state.asked.kind === kind && Object.keys(key).every(name => state.asked.key[name] === key[name]);
+const isAsked = (kind, key) => state.asked !== null && state.asked.kind === kind && Object.keys(key).every(name => state.asked.key[name] === key[name]);
 
 function answerOf(kind, key) {
   const answer = ANSWERS[kind](key);
@@ -94,6 +93,7 @@ function listenToAsking() {
     const text = event.target.value.trim();
     if (event.key !== "Enter" || text === "") return;
     if (!isAsked("find", { text })) ask("find", { text });
+    event.target.blur();
     goAnswer(event.shiftKey ? -1 : 1);
   });
   element("find").addEventListener("search", event => { if (event.target.value === "" && state.asked && state.asked.kind === "find") forget(); });

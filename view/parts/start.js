@@ -48,7 +48,7 @@ function showRun() {
   document.title = `${TITLE}: a run`;
   element("title").textContent = TITLE;
   element("slider").max = END;
-  element("goto").max = END;
+  element("goto").style.width = `${String(run.count).length + 3}ch`;
   const options = run.processes.map(p => `<option value="${p.number}">${escaped(p.name)}</option>`);
   element("who").innerHTML = `<option value="-1">whose turn it is</option>${options.join("")}`;
   element("schedule-text").textContent = run.schedule.trim();
