@@ -10,13 +10,15 @@ function showControls() {
   element("past").setAttribute("aria-pressed", state.past);
   element("fit").setAttribute("aria-pressed", state.width === "whole");
   element("parting").hidden = RUNS.length < 2;
+  element("keep").hidden = !document.documentElement.dataset.within;
+  element("keep").setAttribute("aria-pressed", state.kept !== null);
   element("play").textContent = state.playing ? "❚❚" : "▶";
   element("play").setAttribute("aria-label", state.playing ? "stop" : "play");
 }
 
 const BUTTONS = {
   first: () => go(0), last: () => go(END), back: () => go(state.turn - 1), on: () => go(state.turn + 1), telledbefore: () => goTelling(-1),
-  telledbehind: () => goTelling(1), play, survivors: toggleSurvivors, past: togglePast, parting: goParting, wider: () => zoom(1.3),
+  telledbehind: () => goTelling(1), play, survivors: toggleSurvivors, past: togglePast, keep, parting: goParting, wider: () => zoom(1.3),
   narrower: () => zoom(1 / 1.3), fit: zoomWhole, save, print: () => print(),
 };
 

@@ -7,9 +7,10 @@ const textOf = id => element(id).textContent.replace(/&#(\d+);/g, (_, n) => Stri
    turns behind it are one column. `END` is the last place to which one can go, in the longer of two runs. */
 let SOURCE_LINES = [], TITLE = "", RUNS = [], PARTINGS = [], run = null, LAST = 0, END = 0;
 
-function newRun({ source, schedule, trace }) {
+function newRun(texts) {
+  const { source, schedule, trace } = texts;
   const read = Model.readTrace(trace.startsWith("trace 1\n") ? trace : "turns 0\nend 0\n"), last = read.lastBusy;
-  return Object.assign(read, { source, schedule, last, end: read.count > last ? last + 1 : last });
+  return Object.assign(read, { texts, source, schedule, last, end: read.count > last ? last + 1 : last });
 }
 
 function speakOf(which) {
@@ -38,8 +39,8 @@ const blockName = block => block.conversation >= 0 ? `the conversation ${run.con
 // The number of a turn; the place behind the last turn that is drawn is the end of the run.
 const shownTurn = turn => turn >= END && END > Math.max(...RUNS.map(one => one.last)) ? Math.max(...RUNS.map(one => one.count)) : turn;
 
-/* What the page shows. `width` is that of a column, 0 where the page chooses it; `asked` is the question that was asked last, and `tell` is told
-   where the statement of the chosen turn stands. */
+/* What the page shows. `width` is that of a column, 0 where the page chooses it; `asked` is the question that was asked last, `kept` the texts of
+   the run with which others are compared, and `tell` is told where the statement of the chosen turn stands. */
 const state = {
-  tell() {}, turn: 0, process: 0, follow: true, survivors: false, width: 0, theme: "", playing: 0, past: false, asked: null,
+  tell() {}, turn: 0, process: 0, follow: true, survivors: false, width: 0, theme: "", playing: 0, past: false, asked: null, kept: null,
 };

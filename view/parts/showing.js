@@ -74,8 +74,9 @@ function reveal() {
   view.y = Math.round(Math.max(0, Math.min(view.y, view.high * scale - view.h)));
 }
 
-// At the end of two runs: where they part first.
+// Of a run that is kept, and at the end of two runs: where they part first.
 function partingWords() {
+  if (RUNS.length < 2 && state.kept) return " This run is kept: change the program or the schedule, and the next one is drawn beside it.";
   if (RUNS.length < 2 || state.turn < END) return "";
   if (!PARTINGS.length) return " The two runs do the same, step by step.";
   const [{ process, step, turns }] = PARTINGS;

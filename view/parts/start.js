@@ -35,7 +35,8 @@ function listen() {
 }
 
 // Takes a run, in place of the one that was there: the end stays chosen, and so does a turn that is there again.
-function take(texts, other) {
+function take(texts) {
+  const other = state.kept && (state.kept.trace !== texts.trace || state.kept.source !== texts.source) ? state.kept : null;
   const isAtEnd = run !== null && state.turn > 0 && state.turn === END, who = run && !state.follow ? nameOf(state.process) : "";
   takeRuns(texts, other);
   layRows();
@@ -61,8 +62,16 @@ function showRun() {
   showWords();
 }
 
-// A page around this one tells its runs: a source, a schedule, a trace, one kept to compare it with, a line that is asked for, and the theme. It
-// shows the source itself, and is told where in it a turn is.
+// Keeps the run that is shown, so that the next one is drawn beside it; or gives up the one that was kept.
+function keep() {
+  const { texts } = RUNS[0];
+  state.kept = state.kept ? null : texts;
+  take(texts);
+  showRun();
+}
+
+// A page around this one tells its runs: a source, a schedule and a trace; a line that is asked for; and the theme. It shows the source itself, and
+// is told where in it a turn is.
 function listenToPage() {
   let isListening = false;
   addEventListener("message", ({ source, data }) => {
@@ -73,7 +82,7 @@ function listenToPage() {
     document.documentElement.dataset.within = "yes";
     if (element("panels").dataset.tab === "source") chooseTab("process");
     state.tell = places => source.postMessage({ places }, "*");
-    take(data, data.other);
+    take({ source: data.source, schedule: data.schedule, trace: data.trace });
     if (!isListening) listen();
     isListening = true;
     showRun();
