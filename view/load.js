@@ -6,4 +6,5 @@ const read = name => fs.readFileSync(path.join(__dirname, name), "utf8");
 const names = read("order.txt").split("\n").filter(name => name.startsWith("model/"));
 const text = [...names, "parts/source.js"].map(read).join("\n");
 
-module.exports = new Function(`"use strict"; ${text}; return { Model, Source: { wordsOfSource, blocksOfSource, beginOfStatement, lineOfProcess } };`)();
+const source = "{ wordsOfSource, blocksOfSource, beginOfStatement, lineOfProcess }";
+module.exports = new Function(`"use strict"; ${text}; return { Model, Source: ${source} };`)();

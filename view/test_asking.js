@@ -9,7 +9,8 @@ const { MARKET, table } = require("./long_runs.js");
 const { OUT, same, sure, wait, pageOf, example, inBrowser } = require("./driving.js");
 
 const shot = (browser, name) => browser.picture(path.join(OUT, `${name}.png`));
-const textsOf = (browser, selector) => browser.ask(`[...document.querySelectorAll(${JSON.stringify(selector)})].map(e => (e.innerText ?? e.textContent).replace(/\\s+/g, " ").trim()).join("; ")`);
+const textsOf = (browser, selector) => browser.ask(`[...document.querySelectorAll(${JSON.stringify(selector)})]
+  .map(e => (e.innerText ?? e.textContent).replace(/\\s+/g, " ").trim()).join("; ")`);
 const press = (browser, selector) => browser.ask(`void document.querySelector(${JSON.stringify(selector)}).click()`);
 const asked = browser => browser.textOf("asked").then(text => text.replace(/\s+/g, " ").trim());
 const turnNow = browser => browser.ask("+document.getElementById('goto').value");
@@ -55,8 +56,8 @@ async function testLinesAndMessages(browser) {
 async function testRejection(browser) {
   await browser.open(example("step4").page, 1400, 900, "#turn=22&theme=light");
   const boxes = await textsOf(browser, ".wentback");
-  same("what was put back", boxes, "Turn 22 put buyer back to turn 3 variable before put back to price 40 0 rest 60 100 1 message taken back from offer " +
-    "the held line “offers 40” dropped undone: 5 7 9 11 13 15 17 19 21; " +
+  same("what was put back", boxes, "Turn 22 put buyer back to turn 3 variable before put back to price 40 0 rest 60 100 " +
+    "1 message taken back from offer the held line “offers 40” dropped undone: 5 7 9 11 13 15 17 19 21; " +
     "Turn 22 put shop back to turn 16 variable before put back to bid 40 0 1 message given back to offer undone: 18 20 22");
   await press(browser, ".undoneturns [data-go='11']");
   same("an undone turn", await turnNow(browser), 11);
@@ -97,7 +98,8 @@ async function testPast(browser) {
   const [, buyer, shop] = /^M([\d.]+) [^Z]*ZM([\d.]+) /.exec(await browser.ask("document.querySelector('#drawing .veil').getAttribute('d')"));
   sure("the send of buyer rests on nothing of shop", +buyer > 300 && +shop < 120, [buyer, shop]);
   await browser.open(example("step4").page, 1400, 900, "#turn=20&past&theme=light");
-  sure("the receive of shop rests on the send", (cuts => +cuts[1] > 300)(/^M([\d.]+) /.exec(await browser.ask("document.querySelector('#drawing .veil').getAttribute('d')"))));
+  const veil = await browser.ask("document.querySelector('#drawing .veil').getAttribute('d')");
+  sure("the receive of shop rests on the send", +/^M([\d.]+) /.exec(veil)[1] > 300, veil);
   await shot(browser, "past");
 }
 
@@ -109,8 +111,8 @@ async function testRing(browser) {
     "waits for message oil waits for message salt waits for message bread");
   same("a ring is drawn", await browser.ask("document.querySelectorAll('#drawing .ringed .waiter').length"), 3);
   const says = await browser.textOf("says");
-  same("a ring is told", says.slice(says.indexOf("A ring")), "A ring since turn 3: ann waits for a message on oil, from cai; cai waits for a message on bread, from ben; " +
-    "ben waits for a message on salt, from ann; none of them can ever go on.");
+  same("a ring is told", says.slice(says.indexOf("A ring")), "A ring since turn 3: ann waits for a message on oil, from cai; " +
+    "cai waits for a message on bread, from ben; ben waits for a message on salt, from ann; none of them can ever go on.");
   await shot(browser, "ring");
   await browser.open(pageOf("ring.bounded", table(true), "all 6\n").page, 1400, 900, "#turn=end&theme=light");
   sure("a ring that a rejection can end", (await browser.textOf("says")).endsWith("only a rejection can end it."), await browser.textOf("says"));

@@ -43,7 +43,8 @@ async function testWheel(browser) {
 
 async function testOverview(browser) {
   await browser.open(market(10000), 1440, 900, "#theme=light&turn=5000");
-  const { y } = await boxOf(browser, "overview"), frame = "(f => JSON.stringify([+f.getAttribute('x'), +f.getAttribute('width')]))(document.querySelector('#overview .frame'))";
+  const { y } = await boxOf(browser, "overview"), numbers = "f => JSON.stringify([+f.getAttribute('x'), +f.getAttribute('width')])";
+  const frame = `(${numbers})(document.querySelector('#overview .frame'))`;
   const drag = async (from, to) => {
     await mouse(browser, "mousePressed", from, y + 40);
     for (const x of [(from + to) / 2, to]) await mouse(browser, "mouseMoved", x, y + 40);
@@ -74,7 +75,8 @@ async function testOverview(browser) {
 
 async function testFingers(browser) {
   await browser.open(market(10000), 1440, 900, "#theme=light&turn=5000");
-  const y = (await boxOf(browser, "picture")).y + 80, touch = (type, xs) => browser.send("Input.dispatchTouchEvent", { type, touchPoints: xs.map((x, id) => ({ x, y, id })) });
+  const y = (await boxOf(browser, "picture")).y + 80;
+  const touch = (type, xs) => browser.send("Input.dispatchTouchEvent", { type, touchPoints: xs.map((x, id) => ({ x, y, id })) });
   await browser.send("Emulation.setTouchEmulationEnabled", { enabled: true, maxTouchPoints: 2 });
   const before = await seen(browser);
   await touch("touchStart", [600, 700]);
@@ -89,7 +91,8 @@ async function testFingers(browser) {
 // At each of many sizes, no label lies over another.
 const OVERLAPS = `(async () => {
   let count = 0, hits = [];
-  const box = document.getElementById("picture"), act = deltaY => box.dispatchEvent(new WheelEvent("wheel", { deltaY, clientX: 700, clientY: 300, bubbles: true, cancelable: true, ctrlKey: SHIFTED }));
+  const box = document.getElementById("picture"), how = { clientX: 700, clientY: 300, bubbles: true, cancelable: true, ctrlKey: SHIFTED };
+  const act = deltaY => box.dispatchEvent(new WheelEvent("wheel", { deltaY, ...how }));
   for (let k = 0; k < 50; k++) {
     act(k < 18 ? -70 : 55);
     await new Promise(done => requestAnimationFrame(() => requestAnimationFrame(done)));

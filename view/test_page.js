@@ -72,7 +72,8 @@ async function testOpening(browser) {
   await browser.open(page, 1400, 900, "");
   same("the page opens at the opening", /^The opening: .* Press → /.test(await browser.textOf("says")), true);
   await browser.open(page, 1400, 900, "#turn=22");
-  const place = "(b => [b.x + b.width / 2, b.y + b.height / 2])(document.querySelector('#drawing .mark[data-turn=\"22\"]').getBoundingClientRect())";
+  const mark = "document.querySelector('#drawing .mark[data-turn=\"22\"]').getBoundingClientRect()";
+  const place = `(b => [b.x + b.width / 2, b.y + b.height / 2])(${mark})`;
   const [x, y] = JSON.parse(await browser.ask(`JSON.stringify(${place})`));
   await browser.send("Input.dispatchMouseEvent", { type: "mouseMoved", x, y });
   same("a tooltip tells a turn", await browser.ask(`!${isTipHidden} && document.getElementById('tip').innerText.startsWith('Turn 22:')`), true);
@@ -102,7 +103,9 @@ async function testHostile(browser) {
   const last = await browser.ask("+document.getElementById('slider').max");
   for (let turn = last; turn > 0; turn--) await browser.key("ArrowLeft");
   await browser.ask("document.getElementById('inwords').open = true");
-  await browser.ask("document.getElementById('find').value = '<img src=x>'; document.getElementById('find').dispatchEvent(new KeyboardEvent('keydown', { key: 'Enter', bubbles: true }))");
+  await browser.key("/");
+  await browser.send("Input.insertText", { text: "<img src=x>" });
+  await browser.key("Enter");
   await browser.ask("dispatchEvent(new Event('beforeprint'))");
   same("nothing broke out of words, of what is looked for, and on paper", await browser.ask(intruders), "undefined40");
   const picture = await saved(browser), parsed = `new DOMParser().parseFromString(${JSON.stringify(picture)}, "image/svg+xml")`;

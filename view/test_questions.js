@@ -27,7 +27,8 @@ function traceOf(seed) {
 
 // What each turn rests on at once: the turn before of its process, the turns of a message, and those of a conversation.
 function causesOf(run) {
-  const causes = run.turns.map(() => new Set()), next = (p, u) => run.processes[p].turns.find(v => v > u), before = (p, u) => run.processes[p].turns.filter(v => v <= u).pop();
+  const causes = run.turns.map(() => new Set()), turnsOf = p => run.processes[p].turns;
+  const next = (p, u) => turnsOf(p).find(v => v > u), before = (p, u) => turnsOf(p).filter(v => v <= u).pop();
   const rests = (v, u) => { if (v && u && u !== v) causes[v].add(u); };
   for (const { turns } of run.processes) turns.forEach((u, k) => rests(u, turns[k - 1]));
   for (const { sent, taken, message, channel } of run.receipts) {
@@ -57,15 +58,17 @@ function testPast(what, run) {
 
 // How much there is in stretches, and what lies between two turns.
 function testStretches(what, run) {
-  const t = Math.floor(run.count / 2), size = 5, many = Math.ceil(run.count / size), stretch = turns => {
+  const t = Math.floor(run.count / 2), size = 5, many = Math.ceil(run.count / size);
+  const stretch = turns => {
     const counts = new Array(many).fill(0);
     for (const u of turns) if (u > 0 && u <= t) counts[Math.floor((u - 1) / size)]++;
     return counts;
   };
   for (const { number, turns } of run.processes) {
-    const busy = turns.filter(u => run.turns[u].kind !== "idle"), isWait = u => run.turns[u].kind === "waits", isGone = u => Model.isUndone(run, u, t);
+    const waits = turns.filter(u => run.turns[u].kind === "waits"), busy = turns.filter(u => !/^(idle|waits)$/.test(run.turns[u].kind));
+    const isGone = u => Model.isUndone(run, u, t);
     const wanted = {
-      stood: stretch(busy.filter(u => !isWait(u) && !isGone(u))), waits: stretch(busy.filter(isWait)), undone: stretch(busy.filter(u => !isWait(u) && isGone(u))),
+      stood: stretch(busy.filter(u => !isGone(u))), waits: stretch(waits), undone: stretch(busy.filter(isGone)),
       returns: stretch(run.returns.filter(back => back.process === number).map(back => back.turn)),
     };
     same(`${what} shares of ${number}`, Model.sharesOf(run, number, 0, size, many, t), wanted);
@@ -112,7 +115,7 @@ function testFinding(what, run) {
   for (const line of new Set(places.map(turn => turn.place.line))) {
     same(`${what} line ${line}`, Model.turnsOfLine(run, line), places.filter(turn => turn.place.line === line).map(turn => turn.number));
   }
-  const [process] = run.processes, holds = u => process.variables.filter(v => v.name === "x").some(v => +v.values[0].at(u) > 2 && +v.values[0].at(u - 1) <= 2);
+  const [process] = run.processes, { values: [x] } = process.variables.find(v => v.name === "x"), holds = u => +x.at(u) > 2 && +x.at(u - 1) <= 2;
   same(`${what} x > 2`, Model.turnsFound(run, `${process.name}.x > 2`, {}), run.turns.map(t => t.number).filter(u => u > 0 && holds(u)));
   same(`${what} reject`, Model.turnsFound(run, "reject", {}), run.turns.filter(t => t.said.some(line => line.includes("reject"))).map(t => t.number));
   for (const back of run.returns) {

@@ -23,7 +23,7 @@ function turnsWhere(run, [, process, name, index, sign, number]) {
   return sortedOnce(found);
 }
 
-// Whether a turn has to do with a text: a part of what came out, of a printed line or of a cause; or the whole of a name. `causes` tells causes in words.
+// Whether a turn has to do with a text: a part of what came out, of a printed line or of a cause; or the whole of a name. `causes` are in words.
 function hasText(run, turn, text, causes) {
   if (turn.said.some(line => line.toLowerCase().includes(text))) return true;
   if (turn.line !== null && turn.line.text.toLowerCase().includes(text)) return true;

@@ -3,13 +3,13 @@
 // The turns in which a conversation passed or was rejected, with the members whom this reached, each from one of its turns on.
 function sharedTurns(run) {
   if (run.shared !== undefined) return run.shared;
-  run.shared = new Map();
+  run.shared = new Array(run.lastBusy + 1).fill(null);
   for (const { tries, entries } of run.sessions) {
     for (const one of tries) {
       if (!one.to) continue;
       const members = entries.map(e => ({ process: e.process, from: e.turn > one.to ? e.turn : one.to + 1 }));
-      if (!run.shared.has(one.to)) run.shared.set(one.to, []);
-      run.shared.get(one.to).push({ isPassed: one.how === "accepted", members });
+      if (run.shared[one.to] === null) run.shared[one.to] = [];
+      run.shared[one.to].push({ isPassed: one.how === "accepted", members });
     }
   }
   return run.shared;
@@ -25,14 +25,16 @@ function seenIn(run, receipt) {
 }
 
 /* The causal past of turn t: for each process the last of its turns that could have reached t, by a message, by a pass, by a rejection, or by
-   what a conversation had come to when it was entered. A turn rests on all earlier ones of its process, so one number each tells all. */
+   what a conversation had come to when it was entered. A turn rests on all earlier ones of its process, so one number each tells all. Where each
+   process has come in down to some turn, the turns before it add nothing more. */
 function pastOf(run, t) {
   const past = new Array(run.processes.length).fill(0), shared = sharedTurns(run);
   if (t < 1 || t > run.lastBusy) return past;
   const reach = (p, u) => { if (u > past[p]) past[p] = u; };
   reach(run.turns[t].process, t);
   for (let u = t; u > 0; u--) {
-    const turn = run.turns[u], ends = shared.get(u);
+    if (u % 64 === 0 && past.every(last => last >= u)) break;
+    const turn = run.turns[u], ends = shared[u];
     if (ends && ends.some(({ members }) => members.some(m => past[m.process] >= m.from))) reach(turn.process, u);
     if (u > past[turn.process]) continue;
     if (turn.receipt) {

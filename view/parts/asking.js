@@ -20,7 +20,8 @@ const ANSWERS = {
     if (!message) return null;
     const turns = [message.sent, ...message.receipts.flatMap(r => [r.taken, r.back]), message.back].filter(turn => turn > 0);
     const taken = message.receipts.map(r => `received in turn ${r.taken}${r.back ? `, undone in ${r.back}` : ""}`);
-    const back = message.back ? [`taken back in ${message.back}`] : [], notes = [`sent in turn ${message.sent}`, ...(taken.length ? taken : ["never received"]), ...back];
+    const back = message.back ? [`taken back in ${message.back}`] : [], received = taken.length ? taken : ["never received"];
+    const notes = [`sent in turn ${message.sent}`, ...received, ...back];
     const title = `${message.value} on ${run.channels[message.channel].name}`;
     return { title, note: notes.join("; "), turns: [...new Set(turns)].sort((a, b) => a - b) };
   },
@@ -30,7 +31,10 @@ const ANSWERS = {
   },
 };
 
-const isAsked = (kind, key) => state.asked !== null && state.asked.kind === kind && Object.keys(key).every(name => state.asked.key[name] === key[name]);
+function isAsked(kind, key) {
+  const { asked } = state;
+  return asked !== null && asked.kind === kind && Object.keys(key).every(name => asked.key[name] === key[name]);
+}
 
 function answerOf(kind, key) {
   const answer = ANSWERS[kind](key);
@@ -76,7 +80,8 @@ function showAsked() {
   const button = (turn, text, label) => `<button data-go="${turn}"${turn ? "" : " disabled"} aria-label="${label}">${text}</button>`;
   box.innerHTML = `<p><b>${escaped(state.asked.title)}</b> <span class="note">${escaped(state.asked.note)}</span></p><div class="group">` +
     button(before, `‹ ${before ? grouped(before) : ""}`, `the turn before${before ? `, ${before}` : ""} (p)`) +
-    button(behind, `${behind ? grouped(behind) : ""} ›`, `the next turn${behind ? `, ${behind}` : ""} (n)`) + `<button data-forget aria-label="close the question">×</button></div>`;
+    button(behind, `${behind ? grouped(behind) : ""} ›`, `the next turn${behind ? `, ${behind}` : ""} (n)`) +
+    `<button data-forget aria-label="close the question">×</button></div>`;
 }
 
 function listenToAsking() {

@@ -30,7 +30,10 @@ function listenToControls() {
   element("theme").addEventListener("change", event => { setTheme(event.target.value); show(true); });
   element("inwords").addEventListener("toggle", showWords);
   for (const id of ["printed", "wordlist"]) {
-    element(id).addEventListener("click", event => { const row = event.target.closest("[data-turn]"); if (row && +row.dataset.turn >= 0) go(+row.dataset.turn); });
+    element(id).addEventListener("click", event => {
+      const row = event.target.closest("[data-turn]");
+      if (row && +row.dataset.turn >= 0) go(+row.dataset.turn);
+    });
   }
   listenToTabs();
 }

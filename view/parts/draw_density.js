@@ -16,13 +16,15 @@ function drawDensities(scene) {
 
 function drawDensity(scene, p) {
   const lane = scene.lanes[p], { last } = Model.kindsOf(scene.run).own[p], size = stretchOf(scene.run, scene.width, p);
-  const from = Math.floor(scene.seen.from / size) * size, to = Math.min(scene.now, scene.seen.to, last), n = Math.max(0, Math.ceil((to - from) / size));
+  const from = Math.floor(scene.seen.from / size) * size, to = Math.min(scene.now, scene.seen.to, last);
+  const n = Math.max(0, Math.ceil((to - from) / size));
   const high = lane.folded ? 8 : Math.min(40, lane.bottom - lane.top - 20), foot = lane.folded ? lane.marks + 5 : lane.bottom - 2;
   const later = scene.x(Math.min(scene.now, last)) + scene.width / 2, wanted = Math.max(later, scene.leftEdge);
   if (scene.now < scene.run.last) scene.marks.push(`<path class="later" d="M${wanted} ${foot - high / 2}H${Math.max(wanted, scene.right)}"/>`);
   if (n === 0) return;
   const bars = { x: scene.x(from + 1) - scene.width / 2, step: size * scene.width, end: later };
-  const shares = Model.sharesOf(scene.run, p, from, size, n, scene.now), all = shares.stood.map((count, k) => count + shares.waits[k] + shares.undone[k]);
+  const shares = Model.sharesOf(scene.run, p, from, size, n, scene.now);
+  const all = shares.stood.map((count, k) => count + shares.waits[k] + shares.undone[k]);
   let feet = new Array(n).fill(foot);
   for (const [name, counts] of [["full", shares.stood], ["full waits", shares.waits], ["full gone", shares.undone]]) {
     const heights = counts.map((count, k) => all[k] ? high * count / all[k] : 0);
@@ -48,9 +50,9 @@ function barsOf(name, { x, step, end = Infinity, widest = Infinity }, feet, heig
 function keyOfDensities(scene) {
   let x = scene.leftEdge + 10;
   return [["full", "stands"], ["full waits", "waited"], ["full gone", "undone"], ["full back", "went back"]].map(([name, text]) => {
-    const shape = `<rect class="${name}" x="${x}" y="${scene.high - 13}" width="9" height="9"/><text class="sub" x="${x + 13}" y="${scene.high - 5}">${text}</text>`;
+    const box = `<rect class="${name}" x="${x}" y="${scene.high - 13}" width="9" height="9"/>`, at = x + 13;
     x += 28 + widthOf(text, FONTS.plain);
-    return shape;
+    return `${box}<text class="sub" x="${at}" y="${scene.high - 5}">${text}</text>`;
   }).join("");
 }
 

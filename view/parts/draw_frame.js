@@ -1,7 +1,7 @@
 /* What frames the picture: the numbers of the turns above, the names of the processes at the left, and the chosen turn. */
 function drawAxis(scene) {
-  const { window } = scene, y = AXIS - 0.5;
-  const shapes = [`<rect class="paper" x="${window.x}" y="0" width="${window.w}" height="${AXIS}"/><path class="tick" d="M${window.x} ${y}H${window.x + window.w}"/>`];
+  const { x: left, w: wide } = scene.window, paper = `<rect class="paper" x="${left}" y="0" width="${wide}" height="${AXIS}"/>`;
+  const shapes = [`${paper}<path class="tick" d="M${left} ${AXIS - 0.5}H${left + wide}"/>`];
   const box = grouped(shownTurn(scene.turn)).length * 7 + 8, now = scene.file ? null : placeOfBox(scene, box), taken = [];
   if (now !== null) taken.push([now - box / 2 - 5, now + box / 2 + 5]);
   let ticks = "";
@@ -29,7 +29,8 @@ function columnsSeen(scene) {
 
 function numberedTurns(scene) {
   if (scene.columns) return columnsSeen(scene).map(column => scene.turnOf(column));
-  const { from, to } = scene.seen, step = stepOfTicks((12 + 7 * grouped(scene.run.last).length) / scene.width), found = step > 2 && from < 2 && to > 0 ? [1] : [];
+  const { from, to } = scene.seen, step = stepOfTicks((12 + 7 * grouped(scene.run.last).length) / scene.width);
+  const found = step > 2 && from < 2 && to > 0 ? [1] : [];
   for (let turn = Math.max(step, Math.ceil(from / step) * step); turn <= to; turn += step) found.push(turn);
   return found;
 }
@@ -63,8 +64,8 @@ function gapBefore(scene, column, x) {
 // The column of the chosen turn, and a line behind which nothing is known yet.
 function drawNow(scene) {
   if (scene.file || state.survivors || scene.turn > scene.run.last) return;
-  const high = scene.high - AXIS, wide = Math.max(1, scene.width);
-  if (scene.turn > 0) scene.under.push(`<rect class="nowcolumn" x="${scene.x(scene.turn) - wide / 2}" y="${AXIS}" width="${wide}" height="${high}"/>`);
+  const high = scene.high - AXIS, wide = Math.max(1, scene.width), x = scene.x(scene.turn) - wide / 2;
+  if (scene.turn > 0) scene.under.push(`<rect class="nowcolumn" x="${x}" y="${AXIS}" width="${wide}" height="${high}"/>`);
   scene.over.push(`<path class="now" d="M${scene.turn === 0 ? LEFT + 10 : scene.end} 19V${scene.high}"/>`);
 }
 

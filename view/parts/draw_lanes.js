@@ -22,8 +22,8 @@ function endOfLane(scene, process) {
 
 // Where the last column of a process lies among the survivors.
 function lastOf(scene, process) {
-  for (let k = scene.columns.length - 1; k >= 0; k--) if (scene.run.turns[scene.columns[k]].process === process.number) return scene.x(scene.columns[k]);
-  return LEFT + 10;
+  const last = scene.columns.findLast(turn => scene.run.turns[turn].process === process.number);
+  return last === undefined ? LEFT + 10 : scene.x(last);
 }
 
 /* Who is done, and who has failed. */

@@ -10,7 +10,8 @@ function drawHeld(scene, held) {
   const to = scene.known(held.to), gone = to && held.how === "dropped";
   if (state.survivors && (gone || scene.isGone(held.from))) return;
   const x = scene.x(held.from), end = to ? scene.x(to) : scene.end, y = scene.lanes[held.process].lines;
-  const line = `<path class="held" d="M${x + 4} ${y + 4}H${Math.max(x + 4, end - 3)}"/><rect class="square" x="${x - 4}" y="${y}" width="8" height="8" rx="1.5"/>`;
+  const square = `<rect class="square" x="${x - 4}" y="${y}" width="8" height="8" rx="1.5"/>`;
+  const line = `<path class="held" d="M${x + 4} ${y + 4}H${Math.max(x + 4, end - 3)}"/>${square}`;
   const cross = gone ? `<path class="dropped" d="M${end - 3.5} ${y + 1}l6 6m0 -6l-6 6"/>` : "";
   scene.over.push(scene.thing(`held:${held.id}`, gone ? "gone" : "", line + cross));
 }

@@ -1,7 +1,8 @@
 /* The marks: one for each turn, by its kind. Those of turns that are not known yet are strokes. */
 function drawMarks(scene) {
   const { window, width, run } = scene, strokes = scene.lanes.map(() => "");
-  const first = Math.max(0, Math.floor((window.x - LEFT - 40) / width)), last = Math.min(scene.count - 1, Math.ceil((window.x + window.w - LEFT) / width));
+  const first = Math.max(0, Math.floor((window.x - LEFT - 40) / width));
+  const last = Math.min(scene.count - 1, Math.ceil((window.x + window.w - LEFT) / width));
   for (let column = first; column <= last; column++) {
     const turn = run.turns[scene.turnOf(column)], p = turn.process;
     if (!scene.seesLane(p)) continue;
@@ -34,11 +35,13 @@ function shapeOf(scene, turn, x, y, r) {
   if (turn.kind === "waits") return waitAt(turn, x, y, scene.width);
   if (turn.what[0] === "enter") return ["point", `path d="M${x - r} ${y - r - 0.6}h${r * 1.3}l${r} ${r + 0.6}l${-r} ${r + 0.6}h${-r * 1.3}z"`];
   if (turn.what[0] === "start") return ["ring", `circle cx="${x}" cy="${y}" r="${Math.max(1, r - 0.5)}"`];
-  if (isTest(scene.run, turn)) return ["holds", `path d="M${x} ${y - r - 1.4}l${r + 1.4} ${r + 1.4}l${-r - 1.4} ${r + 1.4}l${-r - 1.4} ${-r - 1.4}z"`];
+  if (isTest(scene.run, turn)) return diamondAt(x, y, r + 1.4);
   if (turn.message) return triangleAt("send", x, y, r, wayOf(scene, scene.run.channels[turn.message.channel]));
   if (turn.receipt) return triangleAt("take", x, y, r, wayOf(scene, scene.run.channels[turn.receipt.channel]));
   return ["took", `circle cx="${x}" cy="${y}" r="${r}"`];
 }
+
+const diamondAt = (x, y, r) => ["holds", `path d="M${x} ${y - r}l${r} ${r}l${-r} ${r}l${-r} ${-r}z"`];
 
 function waitAt(turn, x, y, width) {
   if (turn.what[0] === "at") return ["atline", `path d="M${x - 1.8} ${y - 4}v8m3.6 -8v8"`];

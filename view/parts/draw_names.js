@@ -8,9 +8,10 @@ function drawNames(scene) {
 function nameOfLane(scene, process, p) {
   const lane = scene.lanes[p], name = escaped(fitted(process.name, LEFT < 100 ? 9 : 12)), y = lane.top - 4, high = lane.bottom - lane.top + 8;
   if (lane.folded) return `<g data-lane="${p}"><text class="name folded" x="10" y="${lane.marks + 4}">${name}</text></g>`;
-  const isChosen = p === state.process && !scene.file;
-  const chosen = isChosen ? `<rect class="lane" x="0" y="${y}" width="${LEFT - 5}" height="${high}"/><rect class="took" x="0" y="${y}" width="4" height="${high}"/>` : "";
-  const stands = standingLines(scene, process, p).map((text, k) => `<text class="sub" x="10" y="${lane.marks + 14 + 12 * k}">${escaped(text)}</text>`);
+  const box = (style, wide) => `<rect class="${style}" x="0" y="${y}" width="${wide}" height="${high}"/>`;
+  const chosen = p === state.process && !scene.file ? box("lane", LEFT - 5) + box("took", 4) : "";
+  const below = (text, k) => `<text class="sub" x="10" y="${lane.marks + 14 + 12 * k}">${escaped(text)}</text>`;
+  const stands = standingLines(scene, process, p).map(below);
   return `<g data-lane="${p}">${chosen}<text class="name" x="10" y="${lane.marks + 1}">${name}</text>${stands.join("")}</g>`;
 }
 

@@ -28,16 +28,21 @@ function drawRing(scene) {
 function waitArrow(scene, x, p, q, wait, name) {
   const from = scene.lanes[p].marks, to = scene.lanes[q].marks, side = to > from ? 1 : -1, far = Math.min(44, 18 + Math.abs(to - from) * 0.09);
   const start = x + side * RING.radius * 0.8, first = from + side * RING.radius * 0.7, last = to - side * RING.radius * 0.7;
-  const tip = start + side * 2, line = `M${start} ${first}C${start + side * far} ${first + side * 12} ${start + side * far} ${last - side * 12} ${tip} ${last}`;
+  const tip = start + side * 2, out = start + side * far;
+  const line = `M${start} ${first}C${out} ${first + side * 12} ${out} ${last - side * 12} ${tip} ${last}`;
   const head = `M${tip - side} ${last + side}l${side * 9} ${-side * 2}l${-side * 5} ${-side * 7}z`, most = RING.letters - far * 0.3;
-  const words = [`${wait.kind} ${wait.name}`, wait.name, fitted(wait.name, 10)], text = words.find(one => widthOf(one, FONTS.bold) <= most) || words[2];
+  const words = [`${wait.kind} ${wait.name}`, wait.name], text = words.find(one => widthOf(one, FONTS.bold) <= most) || fitted(wait.name, 10);
+  const at = start + side * (far * 0.75 + 5), anchor = side > 0 ? "start" : "end";
   return `<path class="waitsfor${name}" d="${line}"/><path class="waitshead${name}" d="${head}"/>` +
-    `<text class="ringtext${name}" x="${start + side * (far * 0.75 + 5)}" y="${(first + last) / 2 + 4}" text-anchor="${side > 0 ? "start" : "end"}">${escaped(text)}</text>`;
+    `<text class="ringtext${name}" x="${at}" y="${(first + last) / 2 + 4}" text-anchor="${anchor}">${escaped(text)}</text>`;
 }
 
 const WAITED = { message: "a message on", room: "room on", line: "the others at the test line of" };
 
-const waitInWords = (wait, p) => `${nameOf(p)} waits for ${WAITED[wait.kind]} ${wait.name}${wait.kind === "line" ? "" : `, from ${nameOf(wait.of[0])}`}`;
+function waitInWords(wait, p) {
+  const from = wait.kind === "line" ? "" : `, from ${nameOf(wait.of[0])}`;
+  return `${nameOf(p)} waits for ${WAITED[wait.kind]} ${wait.name}${from}`;
+}
 
 // The ring of the shown run in words, or nothing.
 function ringWords(t) {

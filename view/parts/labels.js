@@ -40,7 +40,8 @@ class Labels {
         const w = widthOf(text, one.font), x = one.isMiddle ? one.x - w / 2 : one.x, box = { x, y: one.y - 9, w, h: 11 };
         if (w > one.most || x < left || x + w > right || !this.isFree(box)) continue;
         this.take(box);
-        shapes.push(`<text class="${one.name}${isPale(x, one.y) ? " pale" : ""}" x="${x.toFixed(1)}" y="${one.y.toFixed(1)}">${escaped(text)}</text>`);
+        const name = isPale(x, one.y) ? `${one.name} pale` : one.name;
+        shapes.push(`<text class="${name}" x="${x.toFixed(1)}" y="${one.y.toFixed(1)}">${escaped(text)}</text>`);
         break;
       }
     }

@@ -38,7 +38,8 @@ function roomOf(run) {
   if (run.room !== undefined) return run.room;
   const late = turn => turn >= run.last - 3, sends = new Set(run.channels.filter(c => c.to > c.from).map(c => c.from));
   const prints = new Set([...run.held, ...run.outs].map(one => one.process));
-  const texts = [...run.outs.filter(o => late(o.turn)).map(o => 16 + o.text.length * 6.6), ...run.processes.filter(p => late(p.failedIn)).map(() => 90)];
+  const outs = run.outs.filter(o => late(o.turn)).map(o => 16 + o.text.length * 6.6);
+  const texts = [...outs, ...run.processes.filter(p => late(p.failedIn)).map(() => 90)];
   const ring = run.last > 0 && Model.standstillAt(run, run.last) ? RING.wide + 14 : 0, behind = Math.max(ring, Math.min(190, Math.max(46, ...texts)));
   return run.room = { rails: layRails(run), sends, prints, texts: behind, tail: run.end > run.last ? 74 : 0 };
 }
@@ -84,7 +85,8 @@ function placeAmong(turns, u) {
 }
 
 function layOut(run, t, width) {
-  const dense = run.processes.length > DENSE, lanes = layLanes(run, dense), columns = state.survivors ? survivorsAt(run, Math.min(t, run.last)) : null;
+  const dense = run.processes.length > DENSE, lanes = layLanes(run, dense);
+  const columns = state.survivors ? survivorsAt(run, Math.min(t, run.last)) : null;
   const count = columns ? columns.length : run.last, at = u => columns ? placeAmong(columns, u) : u - 1, right = LEFT + 10 + count * width;
   return {
     run, lanes, dense, width, columns, count, right, top: 0,

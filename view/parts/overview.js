@@ -1,4 +1,4 @@
-/* The whole run above the lanes, as far as it has no room in them: how much was rejected, waited and passed, and the window that the picture shows. */
+/* The whole run above the lanes, where it has no room in them: how much was rejected, waited and passed, and the window that the picture shows. */
 const OVERVIEW = { high: 54, reject: [5, 20], waits: [27, 37], pass: [40, 52], least: 12, grip: 9 };
 const overview = { w: 0, isShown: false, frame: null };
 
@@ -14,7 +14,7 @@ function layOverview() {
 
 // What does not change with the window: bars of a few pixels for each kind, the greatest as high as its row.
 function drawOverview() {
-  const wide = overview.w - LEFT - 24, step = wide < 500 ? 2 : 3, n = Math.max(1, Math.floor(wide / step)), size = LAST / n, { all } = Model.kindsOf(run);
+  const wide = overview.w - LEFT - 24, n = Math.max(1, Math.floor(wide / (wide < 500 ? 2 : 3))), size = LAST / n, { all } = Model.kindsOf(run);
   const bars = { x: LEFT + 10, step: wide / n }, rows = [["reject", "full bad"], ["waits", "full waits"], ["pass", "full good"]];
   const shapes = rows.map(([kind, name]) => {
     const [top, foot] = OVERVIEW[kind], counts = Model.countsOf(all[kind], 0, size, n), most = kind === "waits" ? size : Math.max(4, ...counts);

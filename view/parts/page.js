@@ -35,7 +35,8 @@ const grouped = n => n < 10000 ? String(n) : String(n).replace(/\B(?=(\d{3})+$)/
 const many = (n, one, more) => `${grouped(n)} ${n === 1 ? one : more || one + "s"}`;
 const turnsIn = list => list.length === 1 ? `turn ${list[0]}` : `turns ${list[0]} ${list.length === 2 ? "and" : "to"} ${list[list.length - 1]}`;
 const listed = words => words.length < 2 ? words.join("") : words.slice(0, -1).join(", ") + " and " + words[words.length - 1];
-const blockName = block => block.conversation >= 0 ? `the conversation ${run.conversations[block.conversation].name}` : `the block on line ${block.line}`;
+const conversationOf = block => run.conversations[block.conversation].name;
+const blockName = block => block.conversation >= 0 ? `the conversation ${conversationOf(block)}` : `the block on line ${block.line}`;
 // The number of a turn; the place behind the last turn that is drawn is the end of the run.
 const shownTurn = turn => turn >= END && END > Math.max(...RUNS.map(one => one.last)) ? Math.max(...RUNS.map(one => one.count)) : turn;
 

@@ -8,7 +8,8 @@ function cell(message, k, taken, forGood, seen) {
   const [name, says] = k < forGood ? ["taken", "taken for good"] : k < taken ? ["taken kept", "taken inside a block: it keeps its place"]
     : k < seen ? ["there", "the receiver can take it"] : ["there unseen", "sent inside a block: the receiver can not see it yet"];
   const isChosen = isAsked("message", { id: message.id }), label = `${escaped(message.value)}: ${says}. Its send and its receive.`;
-  return `<button class="cell ${name}" data-message="${message.id}" aria-pressed="${isChosen}" title="${says}" aria-label="${label}">${escaped(message.value)}</button>`;
+  const asks = `data-message="${message.id}" aria-pressed="${isChosen}" title="${says}" aria-label="${label}"`;
+  return `<button class="cell ${name}" ${asks}>${escaped(message.value)}</button>`;
 }
 
 function channelBox(channel, t) {
@@ -16,7 +17,8 @@ function channelBox(channel, t) {
   const cells = Model.openAt(channel, t, first).map((message, k) => cell(message, first + k, taken, forGood, seen));
   const room = Array.from({ length: Math.min(free, MOST_FREE) }, () => `<span class="cell free" title="room"></span>`);
   const head = `<b>${escaped(channel.name)}</b> ${escaped(nameOf(channel.from))} → ${escaped(nameOf(channel.to))}`;
-  return `<div class="box${isOwn(channel) ? "" : " far"}"><p>${head} <span class="note">sent ${sent}, taken ${taken}, room ${free} of ${channel.size}</span></p>` +
+  const numbers = `<span class="note">sent ${sent}, taken ${taken}, room ${free} of ${channel.size}</span>`;
+  return `<div class="box${isOwn(channel) ? "" : " far"}"><p>${head} ${numbers}</p>` +
     `<p class="cells">${first ? "… " : ""}${cells.join("")}${room.join("")}${free > MOST_FREE ? " …" : ""}</p></div>`;
 }
 

@@ -7,8 +7,9 @@ function historyBox(process, t) {
   const { values, label } = asked, changes = Model.changesOf(run, values), at = Model.countUpTo(values.turns, t) - 1;
   const first = Math.max(0, Math.min(changes.length - MOST_CHANGES, at - MOST_CHANGES + 4)), behind = changes.length - first - MOST_CHANGES;
   const rows = changes.slice(first, first + MOST_CHANGES).map(change => changeRow(change, t, change.turn === values.turns[at]));
-  const last = values.turns[at], button = `<button data-go="${last}"${last === t ? " disabled" : ""}>‹ last turn that changed it: ${grouped(last)}</button>`;
-  return `<div class="history"><h3>${escaped(label)}</h3>${elementsOf(process, asked)}${curveOf(values, t)}<p>${last ? button : "Nothing has changed it yet."}</p>` +
+  const last = values.turns[at], off = last === t ? " disabled" : "";
+  const button = last ? `<button data-go="${last}"${off}>‹ last turn that changed it: ${grouped(last)}</button>` : "Nothing has changed it yet.";
+  return `<div class="history"><h3>${escaped(label)}</h3>${elementsOf(process, asked)}${curveOf(values, t)}<p>${button}</p>` +
     (first ? `<p class="note">${many(first, "value")} before</p>` : "") + `<ol>${rows.join("")}</ol>` +
     (behind > 0 ? `<p class="note">${many(behind, "value")} behind</p>` : "") + "</div>";
 }
@@ -35,7 +36,8 @@ function curveOf(values, t) {
   const low = Math.min(...numbers), high = Math.max(...numbers), now = CURVE * (t - from) / Math.max(1, to - from);
   const y = value => high === low ? 20 : 36 - 32 * (value - low) / (high - low);
   const path = numbers.map((value, k) => k ? `H${k}V${y(value).toFixed(1)}` : `M0 ${y(value).toFixed(1)}`).join("");
-  const chosen = now >= 0 && now <= CURVE ? `<path class="at" d="M${now.toFixed(1)} 0V40"/>` : "", label = `its values in the turns that the picture shows, from ${low} to ${high}`;
-  return `<p class="curve"><svg viewBox="0 0 ${CURVE} 40" preserveAspectRatio="none" role="img" aria-label="${label}"><path d="${path}"/>${chosen}</svg>` +
-    `<span>${high}</span><span>${low}</span></p>`;
+  const chosen = now >= 0 && now <= CURVE ? `<path class="at" d="M${now.toFixed(1)} 0V40"/>` : "";
+  const named = `role="img" aria-label="its values in the turns that the picture shows, from ${low} to ${high}"`;
+  const svg = `<svg viewBox="0 0 ${CURVE} 40" preserveAspectRatio="none" ${named}><path d="${path}"/>${chosen}</svg>`;
+  return `<p class="curve">${svg}<span>${high}</span><span>${low}</span></p>`;
 }

@@ -20,16 +20,19 @@ function showPrinted() {
     const names = [turn === state.turn ? "new" : "", /^\d+ (reject|error) /.test(line) ? "back" : ""].filter(Boolean).join(" ");
     return `<div${names ? ` class="${names}"` : ""} data-turn="${turn}">${escaped(line)}</div>`;
   });
-  setMarkup("printed", (before > 0 ? `<p class="note">… ${many(before, "line")} before</p>` : "") + (rows.join("") || '<p class="note">nothing yet</p>'));
+  const left = before > 0 ? `<p class="note">… ${many(before, "line")} before</p>` : "";
+  setMarkup("printed", left + (rows.join("") || '<p class="note">nothing yet</p>'));
 }
 
 // The turns around the chosen one in words, made when they are asked for.
 function showWords() {
   if (!element("inwords").open) return;
-  const middle = Math.min(state.turn, LAST), from = Math.max(1, LAST <= MOST_WORDS ? 1 : middle - MOST_WORDS / 2), to = Math.min(LAST, from + MOST_WORDS);
+  const first = LAST <= MOST_WORDS ? 1 : Math.min(state.turn, LAST) - MOST_WORDS / 2;
+  const from = Math.max(1, first), to = Math.min(LAST, from + MOST_WORDS);
   const turns = [];
   for (let turn = from; turn <= to; turn++) if (run.turns[turn].kind !== "idle") turns.push(turn);
   if (to === LAST && run.end > LAST) turns.push(run.end);
-  const left = turns.length && (from > 1 || to < LAST) ? `<li class="note">the turns ${grouped(from)} to ${grouped(to)}; open it anew at another turn for others</li>` : "";
+  const isPart = from > 1 || to < LAST, note = `the turns ${grouped(from)} to ${grouped(to)}; open it anew at another turn for others`;
+  const left = isPart ? `<li class="note">${note}</li>` : "";
   element("wordlist").innerHTML = left + turns.map(turn => `<li data-turn="${turn}">${escaped(sentence(turn))}</li>`).join("");
 }

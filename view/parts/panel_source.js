@@ -69,7 +69,8 @@ function endOfStatement(text, from) {
 }
 
 function lineAsMarkup(text, pieces) {
-  const cuts = [...new Set([0, text.length, ...pieces.flatMap(([from, to]) => [Math.min(from, text.length), Math.min(to, text.length)])])].sort((a, b) => a - b);
+  const ends = pieces.flatMap(([from, to]) => [Math.min(from, text.length), Math.min(to, text.length)]);
+  const cuts = [...new Set([0, text.length, ...ends])].sort((a, b) => a - b);
   return cuts.slice(0, -1).map((from, k) => {
     const names = pieces.filter(piece => piece[0] <= from && cuts[k + 1] <= piece[1]).map(piece => piece[2]).join(" ");
     const part = escaped(text.slice(from, cuts[k + 1]));
@@ -78,7 +79,8 @@ function lineAsMarkup(text, pieces) {
 }
 
 // Where the statement of the chosen turn stands: its pieces.
-const placesIn = marks => marks.flatMap(({ pieces }, line) => pieces.filter(([, , name]) => name.startsWith("place")).map(([from, to, name]) => ({ line, from, to, name })));
+const placesIn = marks => marks.flatMap(({ pieces }, line) =>
+  pieces.filter(([, , name]) => name.startsWith("place")).map(([from, to, name]) => ({ line, from, to, name })));
 
 // Shows the source at the chosen turn, and answers what brings the line into sight.
 function showSource() {
@@ -98,7 +100,8 @@ function showRow(row, line, { pieces, bars }, isHere) {
   row.sign = sign;
   row.className = `row${isHere ? " here" : ""}${isChosen ? " chosen" : ""}`;
   const turns = Model.turnsOfLine(run, line + 1).length, label = `line ${line + 1}: ${many(turns, "turn")} carried it out`;
-  const number = turns ? `<button class="link" data-line="${line + 1}" title="the turns that carried it out" aria-label="${label}" aria-pressed="${isChosen}">${line + 1}</button>` : line + 1;
+  const asks = `data-line="${line + 1}" title="the turns that carried it out" aria-label="${label}" aria-pressed="${isChosen}"`;
+  const number = turns ? `<button class="link" ${asks}>${line + 1}</button>` : line + 1;
   row.innerHTML = `<b>${number}</b><u>${bars}</u><code>${lineAsMarkup(SOURCE_LINES[line], pieces) || " "}</code>`;
 }
 

@@ -1,6 +1,7 @@
 /* Pointing at the picture: what is there is told, and a click goes there. Marks of turns are found by their place. */
 function placeUnder(event) {
-  const box = element("drawing").getBoundingClientRect(), x = (event.clientX - box.left) / view.scale, y = (event.clientY - box.top + view.y) / view.scale;
+  const box = element("drawing").getBoundingClientRect();
+  const x = (event.clientX - box.left) / view.scale, y = (event.clientY - box.top + view.y) / view.scale;
   const which = view.layouts.length > 1 && y >= view.layouts[1].top ? 1 : 0, layout = view.layouts[which];
   return { x, inPicture: x + view.x / view.scale, y: y - layout.top, which, layout };
 }

@@ -6,7 +6,8 @@ const MOST_ON_PAPER = 500, MOST_PRINTED_LINES = 400;
 function columnsOnPaper(layout, dense, width) {
   const each = dense ? Math.max(80, Math.floor(layout.high * 1.35 / width)) : 62, { count } = layout;
   if (count <= MOST_ON_PAPER) return { from: 0, to: count, each };
-  const last = layout.columns ? count : Math.min(count, Math.max(MOST_ON_PAPER, Math.min(state.turn, LAST))), to = Math.min(count, Math.ceil(last / each) * each);
+  const last = layout.columns ? count : Math.min(count, Math.max(MOST_ON_PAPER, Math.min(state.turn, LAST)));
+  const to = Math.min(count, Math.ceil(last / each) * each);
   return { from: Math.max(0, to - Math.floor(MOST_ON_PAPER / each) * each), to, each };
 }
 
@@ -18,18 +19,20 @@ function stripsOnPaper() {
     strips.push(`<div class="strip">${pictureFile(turn, width, at, end).replace(/<style>.*?<\/style>/s, "")}</div>`);
   }
   if (from === 0 && to === layout.count) return strips.join("");
-  const whole = overview.isShown ? `<div class="strip"><svg viewBox="0 0 ${overview.w} ${OVERVIEW.high}" width="100%">${drawOverview()}</svg></div>` : "";
+  const svg = overview.isShown ? `<svg viewBox="0 0 ${overview.w} ${OVERVIEW.high}" width="100%">${drawOverview()}</svg>` : "";
+  const whole = svg && `<div class="strip">${svg}</div>`;
   return `${whole}<p>Above, the whole run; below, the turns ${layout.turnOf(from)} to ${layout.turnOf(to - 1)}.</p>${strips.join("")}`;
 }
 
 function layPaper() {
   const { before, lines } = linesSoFar(MOST_PRINTED_LINES), left = before > 0 ? `… ${many(before, "line")} before\n` : "";
   const source = SOURCE_LINES.map((text, k) => `${String(k + 1).padStart(3)}  ${text}`).join("\n");
-  const head = `<h1>${escaped(TITLE)}${state.survivors ? ": what survived" : ""}</h1><p>${escaped(element("says").textContent.replace(HINT, ""))}</p>`;
-  const legend = `<h2>How to read it</h2>${element("helptext").querySelector("table").outerHTML}`;
-  const texts = `<h2>Source</h2><pre class="columns">${escaped(source)}</pre><h2>Schedule</h2><pre>${escaped(run.schedule.trim())}</pre>`;
-  const output = `<h2>${escaped(element("printedtitle").textContent)}</h2><pre class="columns">${escaped(left + lines.map(({ line }) => line).join("\n"))}</pre>`;
-  element("paper").innerHTML = head + stripsOnPaper() + legend + texts + output;
+  const says = element("says").textContent.replace(HINT, ""), output = left + lines.map(({ line }) => line).join("\n");
+  const head = `<h1>${escaped(TITLE)}${state.survivors ? ": what survived" : ""}</h1><p>${escaped(says)}</p>`;
+  const part = (title, name, text) => `<h2>${escaped(title)}</h2><pre class="${name}">${escaped(text)}</pre>`;
+  const legend = `<div class="legend"><h2>How to read it</h2>${element("helptext").querySelector("table").outerHTML}</div>`;
+  const texts = part("Source", "columns", source) + part("Schedule", "", run.schedule.trim());
+  element("paper").innerHTML = head + stripsOnPaper() + legend + texts + part(element("printedtitle").textContent, "columns output", output);
 }
 
 const listenToPrinting = () => addEventListener("beforeprint", layPaper);

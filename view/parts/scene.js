@@ -1,4 +1,4 @@
-/* What is drawn once: a layout at a turn, seen through a window. Everything drawn asks it what is seen, and puts its shapes into one of its layers. */
+/* What is drawn once: a layout at a turn, seen through a window. What is drawn asks it what is seen, and puts its shapes into one of its layers. */
 class Scene {
   constructor(layout, turn, window) {
     Object.assign(this, layout);
@@ -17,7 +17,7 @@ class Scene {
   }
   // The first and the last turn that the window shows, and a few beside them.
   turnsSeen() {
-    const from = Math.floor((this.window.x - (this.file ? 0 : 40)) / this.width) - 2, to = Math.ceil((this.window.x + this.window.w - LEFT) / this.width) + 2;
+    const { x, w } = this.window, from = Math.floor((x - (this.file ? 0 : 40)) / this.width) - 2, to = Math.ceil((x + w - LEFT) / this.width) + 2;
     const column = at => Math.max(0, Math.min(this.count - 1, at));
     if (this.columns) return { from: this.columns[column(from)] || 0, to: this.columns[column(to)] || 0 };
     return { from: Math.max(0, from), to: Math.min(this.run.last, Math.max(0, to)) };

@@ -40,12 +40,13 @@ function settle() {
 }
 
 function draw() {
-  const { scale, layouts } = view, w = Math.max(200, view.w) / scale, h = Math.max(80, Math.min(view.h / scale, view.high)), x = view.x / scale, y = view.y / scale;
+  const { scale, layouts } = view, w = Math.max(200, view.w) / scale, h = Math.max(80, Math.min(view.h / scale, view.high));
+  const x = view.x / scale, y = view.y / scale, isAlone = layouts.length < 2;
   const svg = element("drawing"), pictures = [], names = [];
   layouts.forEach((layout, which) => {
     const scene = new Scene(layout, Math.min(state.turn, layout.run.end), { x, y: y - layout.top, w, h, file: false });
     pictures.push(`<g transform="translate(${-x},${layout.top - y})" data-run="${which}">${drawPicture(scene)}</g>`);
-    names.push(`<g transform="translate(0,${layout.top - y})" data-run="${which}">${drawNames(scene)}${layouts.length > 1 ? headOfRun(which, w) : ""}</g>`);
+    names.push(`<g transform="translate(0,${layout.top - y})" data-run="${which}">${drawNames(scene)}${isAlone ? "" : headOfRun(which, w)}</g>`);
     if (which === 0) setMarkup("axes", `<g transform="translate(${-x},0)">${drawAxis(scene)}</g>`);
   });
   setMarkup("pictures", pictures.join(""));
@@ -93,7 +94,14 @@ function showSentence() {
   says.setAttribute("aria-live", state.playing ? "off" : "polite");
 }
 
-// The address tells the turn, the process and the mode, so that a moment can be linked to.
+// The address tells the turn, the process and the mode, so that a moment can be linked to: a while after the last step, since it takes its time.
+let addressTimer = 0;
+
+function showAddressSoon() {
+  clearTimeout(addressTimer);
+  addressTimer = setTimeout(showAddress, 300);
+}
+
 function showAddress() {
   const turn = state.turn === END ? "end" : state.turn, who = state.follow ? "" : `process=${nameOf(state.process)}`;
   const parts = [`turn=${turn}`, who, state.survivors ? "survivors" : "", state.past ? "past" : "", state.theme ? `theme=${state.theme}` : ""];
@@ -110,7 +118,7 @@ function show(stay) {
   showSentence();
   showAsked();
   showControls();
-  showAddress();
+  showAddressSoon();
   const scroll = showSource();
   showProcess();
   showChannels();

@@ -30,8 +30,8 @@ function setSize() {
 function listen() {
   addStyle();
   matchMedia("(prefers-color-scheme: dark)").addEventListener("change", () => setTheme(state.theme));
-  for (const part of [listenToKeys, listenToControls, listenToPointing, listenToZooming, listenToOverview, listenToAsking, listenToProcess, listenToChannels]) part();
-  listenToPrinting();
+  const ofPicture = [listenToPointing, listenToZooming, listenToOverview], ofPanels = [listenToAsking, listenToProcess, listenToChannels];
+  for (const part of [listenToKeys, listenToControls, ...ofPicture, ...ofPanels, listenToPrinting]) part();
 }
 
 // Takes a run, in place of the one that was there: the end stays chosen, and so does a turn that is there again.

@@ -60,7 +60,8 @@ const KEYS = {
   ArrowRight: event => event.shiftKey ? goOwn(1) : go(state.turn + 1),
   ArrowUp: () => choose(state.process - 1), ArrowDown: () => choose(state.process + 1),
   Home: () => go(0), End: () => go(END), PageUp: () => goTelling(-1), PageDown: () => goTelling(1),
-  " ": play, s: toggleSurvivors, c: togglePast, d: goParting, g: () => focusOn("goto"), "/": () => focusOn("find"), n: () => goAnswer(1), p: () => goAnswer(-1),
+  " ": play, s: toggleSurvivors, c: togglePast, d: goParting, g: () => focusOn("goto"), "/": () => focusOn("find"),
+  n: () => goAnswer(1), p: () => goAnswer(-1),
   "+": () => zoom(1.3), "-": () => zoom(1 / 1.3), 0: zoomWhole, "?": toggleHelp,
   Escape() {
     if (element("help").open || element("more").open) for (const id of ["help", "more"]) element(id).open = false; else forget();
