@@ -6,8 +6,8 @@ function drawAsked(scene) {
   for (let k = Model.countUpTo(turns, Math.max(0, scene.seen.from - 1)); k < turns.length && turns[k] <= scene.seen.to; k++) {
     const turn = scene.run.turns[turns[k]], x = scene.x(turns[k]);
     if (turn.process < 0 || x - before < 0.8 || (state.survivors && placeAmong(scene.columns, turns[k]) % 1)) continue;
-    const lane = scene.lanes[turn.process], y = scene.isFar ? lane.bottom - 1 : lane.marks + scene.radius + 3;
-    path += `M${x.toFixed(1)} ${y}l-4 6.5h8z`;
+    const lane = scene.lanes[turn.process];
+    path += scene.isFar ? `M${x.toFixed(1)} ${lane.top + 5}l-3 -6h6z` : `M${x.toFixed(1)} ${lane.marks + scene.radius + 3}l-4 6.5h8z`;
     before = x;
   }
   if (path) scene.over.push(`<path class="asked" d="${path}"/>`);

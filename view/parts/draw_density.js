@@ -18,7 +18,7 @@ function drawDensity(scene, p) {
   const lane = scene.lanes[p], { last } = Model.kindsOf(scene.run).own[p], size = stretchOf(scene.run, scene.width, p);
   const from = Math.floor(scene.seen.from / size) * size, to = Math.min(scene.now, scene.seen.to, last);
   const n = Math.max(0, Math.ceil((to - from) / size));
-  const high = lane.folded ? 8 : Math.min(40, lane.bottom - lane.top - 20), foot = lane.folded ? lane.marks + 5 : lane.bottom - 2;
+  const high = lane.folded ? 8 : Math.min(40, lane.bottom - lane.top - 20), foot = lane.bottom - (lane.folded ? 0 : 2), above = lane.folded ? 3 : 8;
   const later = scene.x(Math.min(scene.now, last)) + scene.width / 2, wanted = Math.max(later, scene.leftEdge);
   if (scene.now < scene.run.last) scene.marks.push(`<path class="later" d="M${wanted} ${foot - high / 2}H${Math.max(wanted, scene.right)}"/>`);
   if (n === 0) return;
@@ -31,8 +31,8 @@ function drawDensity(scene, p) {
     scene.marks.push(barsOf(name, bars, feet, heights));
     feet = feet.map((y, k) => y - heights[k]);
   }
-  const most = Math.max(4, ...shares.returns), tops = shares.returns.map(count => count ? 3 + 8 * Math.sqrt(count / most) : 0);
-  scene.over.push(barsOf("full back", { ...bars, widest: 9 }, new Array(n).fill(foot - high - 2), tops));
+  const most = Math.max(4, ...shares.returns), tops = shares.returns.map(count => count ? 3 + above * Math.sqrt(count / most) : 0);
+  scene.over.push(barsOf("full back", { ...bars, widest: 9 }, new Array(n).fill(foot - high - 1), tops));
 }
 
 // One path for all stretches of a kind: bars that stand on their feet, each at least a pixel and a bit wide, so that none is lost.

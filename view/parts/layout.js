@@ -51,14 +51,18 @@ const areJoined = (run, p, q) => p === q || run.conversations.some(c => c.member
 // Of many lanes those that have nothing to do with a chosen process are folded.
 const isFolded = (run, p) => run.processes.length > DENSE && !state.follow && !areJoined(run, p, state.process);
 
-function layLanes(run, dense) {
+// A lane of which little is drawn.
+const narrowLane = (top, bottom) => ({ top, row: 0, marks: top + 6, lines: top + 6, rails: top + 6, bottom, rows: 0, folded: true });
+
+// Of many lanes each is narrow where there is no room for marks, so that all are seen.
+function layLanes(run, dense, isFar) {
   const { rails, prints, sends } = roomOf(run);
   let y = AXIS + 6;
   return run.processes.map((process, p) => {
     const top = y;
-    if (isFolded(run, p)) {
-      y = top + 15;
-      return { top, row: 0, marks: top + 6, lines: top + 6, rails: top + 6, bottom: top + 12, rows: 0, folded: true };
+    if (isFolded(run, p) || (dense && isFar)) {
+      y = top + (isFar ? 16 : 15);
+      return narrowLane(top, top + (isFar ? 14 : 12));
     }
     const rows = Math.min(process.depth, MOST_ROWS), row = dense ? 12 : 15;
     const marks = top + (dense ? 1 : 6) + rows * row + (dense ? 9 : 11);
@@ -85,7 +89,7 @@ function placeAmong(turns, u) {
 }
 
 function layOut(run, t, width) {
-  const dense = run.processes.length > DENSE, lanes = layLanes(run, dense);
+  const dense = run.processes.length > DENSE, lanes = layLanes(run, dense, width < TINY && !state.survivors);
   const columns = state.survivors ? survivorsAt(run, Math.min(t, run.last)) : null;
   const count = columns ? columns.length : run.last, at = u => columns ? placeAmong(columns, u) : u - 1, right = LEFT + 10 + count * width;
   return {
