@@ -57,7 +57,7 @@ const narrowLane = (top, bottom) => ({ top, row: 0, marks: top + 6, lines: top +
 // Of many lanes each is narrow where there is no room for marks, so that all are seen.
 function layLanes(run, dense, isFar) {
   const { rails, prints, sends } = roomOf(run);
-  let y = AXIS + 6;
+  let y = AXIS + (RUNS.length > 1 ? 18 : 6);
   return run.processes.map((process, p) => {
     const top = y;
     if (isFolded(run, p) || (dense && isFar)) {
@@ -97,7 +97,7 @@ function layOut(run, t, width) {
     x: u => u <= 0 ? LEFT + 6 : LEFT + 10 + (at(u) + 0.5) * width,
     turnOf: column => columns ? columns[column] : column + 1,
     wide: right + (columns ? 0 : roomOf(run).tail) + MARGIN + roomBehind(run, width),
-    high: (lanes.length ? lanes[lanes.length - 1].bottom : AXIS) + (dense ? 8 : 18),
+    high: (lanes.length ? lanes[lanes.length - 1].bottom : AXIS) + (dense && width >= TINY ? 8 : 18),
   };
 }
 

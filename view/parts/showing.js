@@ -59,7 +59,7 @@ function draw() {
 // Above each of two runs: which it is, and how its schedule begins.
 function headOfRun(which, w) {
   const { schedule } = RUNS[which], text = schedule.replace(/#.*/g, "").trim().split(/\s*\n\s*/).join(", ");
-  const line = which ? `<path class="between" d="M0 0.5H${w}"/>` : "", y = which ? AXIS - 8 : AXIS + 12;
+  const line = which ? `<path class="between" d="M0 0.5H${w}"/>` : "", y = AXIS + 11;
   return `${line}<text class="runname" x="${LEFT + 6}" y="${y}">${which ? "kept run" : "this run"}: ${escaped(fitted(text, 60))}</text>`;
 }
 
