@@ -25,5 +25,4 @@ class Page(Told):
     def test_in_browser(self):
         """Each turn of the examples; what the page answers, and how it is seen; and long runs."""
         for script in ("page", "asking", "looks", "long", "time"):
-            with self.subTest(script):
-                self.told([f"view/test_{script}.js"])
+            self.told([f"view/test_{script}.js"])
