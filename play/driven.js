@@ -55,7 +55,7 @@ class Driven {
   frame(expression) { return this.ask(`(d => (${expression}))(document.getElementById("frame").contentDocument)`); }
   // Waits until the picture shows a run of so many turns.
   drawn(turns) {
-    return this.until(`document.getElementById("frame").contentDocument.getElementById("count")?.textContent.endsWith("of ${turns}")`);
+    return this.until(`document.getElementById("frame").contentDocument.getElementById("of")?.textContent.replace(",", "") === "of ${turns}"`);
   }
   // The text of the file that a click hands out, and its name.
   file(id) {

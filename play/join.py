@@ -9,12 +9,15 @@ import base64
 import hashlib
 import html
 import json
+import os
 import re
 import sys
 import zlib
 
 sys.dont_write_bytecode = True
+sys.path.append(os.path.join(os.path.dirname(os.path.dirname(os.path.abspath(__file__))), "view"))
 import lessons
+from bare import bare
 
 GRAMMARS = {"program": "editors/vscode/syntaxes/rbl.tmLanguage.json", "schedule": "editors/vscode/syntaxes/rbl-schedule.tmLanguage.json"}
 # Each script stands on those before it: those that come before anything is seen, and those of the page. The worker's run in the engine's thread.
@@ -71,8 +74,8 @@ def policy(scripts):
 
 
 def together(paths):
-    """Texts of the repository, one behind the other."""
-    return "\n" + "\n".join(map(text_of, paths)) + "\n"
+    """Scripts of the repository, one behind the other."""
+    return "\n" + "\n".join(bare(text_of(path)) for path in paths) + "\n"
 
 
 def scripts_of(page):

@@ -8,7 +8,7 @@
 const http = require("http"), fs = require("fs"), path = require("path"), zlib = require("zlib");
 const { Browser } = require("../view/browser.js"), cases = require("../view/cases.js");
 const { PAGE, OUT, example, addressOf, changedPage, same } = require("./native.js");
-const { Driven, inTurn, wait } = require("./driven.js"), trials = require("./trials.js");
+const { Driven, inTurn, wait } = require("./driven.js"), trials = require("./trials.js"), pictures = require("./trials_picture.js");
 
 const SHIFT = 8;
 
@@ -192,7 +192,7 @@ async function speed(page) {
 async function main() {
   const browser = await Chromium.begin(process.env.CHROMIUM || "chromium"), page = new Driven(browser);
   await browser.size(1400, 900);
-  await inTurn(page, Object.values(trials));
+  await inTurn(page, [...Object.values(trials), ...Object.values(pictures)]);
   await inTurn(page, [nothingGoesOut, oldBrowsers, chosenFiles, keyboard, looks, fromServer, speed]);
   same("no errors of scripts", browser.errors.filter(error => !/example\.invalid|EvalError/.test(error)).join("; "), "");
   await browser.stop();

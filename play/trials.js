@@ -22,7 +22,9 @@ async function opening(page) {
   same("the first schedule", await page.text("schedule"), schedule);
   same("the first picture", await page.drawn(60), true);
   same("the first outcome", await page.told("outcome"), "After 60 turns: buyer and shop are done.");
-  same("marks of the first picture", await page.frame(`d.querySelectorAll("#drawing [data-thing]").length`) > 40, true);
+  same("the first picture is of the opening", await page.frame(`d.getElementById("says").textContent.startsWith("The opening")`), true);
+  await page.frame(`d.getElementById("last").click()`);
+  same("marks of the first picture", await page.frame(`d.querySelectorAll("#drawing [data-thing], #drawing [data-turn]").length`) > 40, true);
   same("nothing is amiss", await page.isHidden("notice"), true);
   same("what the engine is", /^(not )?proved.* by /.test(await page.told("made")), true);
   await page.browser.picture(path.join(OUT, `${page.browser.constructor.name}.png`));
@@ -41,6 +43,7 @@ async function lessons(page, names) {
     await page.tab("picture");
     const lines = native("rbl", ["run", ...BOTH], { program, schedule }).out, turns = /^end (\d+)$/m.exec(lines)[1];
     same(`picture of ${name}`, await page.drawn(turns), true);
+    await page.frame(`d.getElementById("last").click()`);
     const drawn = await page.frame(`[...d.querySelectorAll("#printed div")].map(row => row.textContent).join("\\n")`);
     same(`lines in the picture of ${name}`, drawn.trim(), lines.trim());
   }
@@ -56,7 +59,7 @@ async function editing(page) {
   same("the list says so", await page.ask(`document.getElementById("lesson").selectedOptions[0].textContent`), "your own, after step4");
   await page.tab("picture");
   await page.frame(`d.getElementById("last").click()`);
-  const chosen = async () => +(await page.frame(`d.getElementById("count").textContent`)).split(" ")[1];
+  const chosen = async () => +(await page.frame(`d.getElementById("goto").value`));
   while (await chosen() > 22) await page.frame(`d.getElementById("back").click()`);
   const says = await page.frame(`d.getElementById("says").textContent`);
   same("the turn that goes back", says.startsWith("Turn 22: alternate 1 of the conversation Deal is rejected"), true);
@@ -64,7 +67,7 @@ async function editing(page) {
   same("its statement is marked", await page.until(`${marked} === "ensure bid > 54 within 20"`), true);
   await page.type({ schedule: "all 31\n" });
   await page.drawn(62);
-  same("the chosen turn stays", (await page.frame(`d.getElementById("count").textContent`)), "turn 22 of 62");
+  same("the chosen turn stays", await page.frame(`d.getElementById("goto").value + " " + d.getElementById("of").textContent`), "22 of 62");
   await page.ask(`${Driven.editor("schedule")}.undo()`);
   same("undone", await page.drawn(60), true);
   await page.type({ schedule: "" });
@@ -184,7 +187,7 @@ async function stopping(page) {
 async function manyTurns(page) {
   const texts = { program: read("bench/one.rbl"), schedule: read("bench/one.schedule") };
   await page.type(texts);
-  same("a million turns are not drawn", /has [\d,]+ turns, and one of up to 20,000 turns is drawn/.test(await page.told("picturenote")), true);
+  same("a million turns are not drawn", /has [\d,]+ turns, and one of up to 100,000 turns is drawn/.test(await page.told("picturenote")), true);
   for (const tab of ["printed", "stuck"]) {
     const [command] = COMMANDS[tab];
     same(`${command} of a million turns`, await page.tab(tab), native("rbl", [command, ...BOTH], texts).out);

@@ -13,3 +13,7 @@ class Model(Told):
         """The examples, and random programs."""
         random = [["view/test_model.js", str(first), str(first + AT_A_TIME - 1)] for first in range(1, PROGRAMS, AT_A_TIME)]
         self.told(["view/test_model.js"], *random)
+
+    def test_questions(self):
+        """What it answers to questions is what they mean, said plainly."""
+        self.told(["view/test_questions.js"])

@@ -23,4 +23,6 @@ class Page(Told):
     @unittest.skipUnless(HAS_NODE, "no node here")
     @unittest.skipUnless(CHROMIUM, "no Chromium here")
     def test_in_browser(self):
-        self.told(["view/test_page.js"])
+        """Each turn of the examples; what the page answers, and how it is seen; and long runs."""
+        for script in ("page", "asking", "looks", "long", "time"):
+            self.told([f"view/test_{script}.js"])

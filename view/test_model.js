@@ -7,7 +7,7 @@
    written had the schedule ended there: lines, states, open blocks, variables, channels and survivors. RBL and RBLVIEW name the two programs. */
 "use strict";
 const child = require("child_process"), fs = require("fs"), os = require("os"), path = require("path");
-const Model = require("./model.js"), Source = require("./parts/source.js"), { program } = require("./programs.js"), cases = require("./cases.js");
+const { Model, Source } = require("./load.js"), { program } = require("./programs.js"), cases = require("./cases.js");
 
 const ROOT = path.dirname(__dirname), EXAMPLES = path.join(ROOT, "examples");
 const RBL = process.env.RBL || path.join(ROOT, "rbl");

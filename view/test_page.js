@@ -4,47 +4,22 @@
      node view/test_page.js [--pictures]
 
    With `--pictures` it tests nothing, but makes the pictures of docs/pictures anew, by `save as SVG`: of the steps of the walk, and of the
-   classics. RBL and RBLVIEW may name the two programs, CHROMIUM the
-   browser. */
+   classics. RBL and RBLVIEW may name the two programs, CHROMIUM the browser. */
 "use strict";
-const child = require("child_process"), fs = require("fs"), path = require("path");
-const { Browser } = require("./browser.js"), { crowd, HOSTILE } = require("./programs.js"), cases = require("./cases.js");
-
-const ROOT = path.dirname(__dirname), OUT = path.join(__dirname, "out");
-const RBL = process.env.RBL || path.join(ROOT, "rbl");
-const RBLVIEW = process.env.RBLVIEW || path.join(ROOT, "rblview");
-const CHROMIUM = process.env.CHROMIUM || "chromium";
-
-function same(what, page, wanted) {
-  cases.told(what, page === wanted ? "" : `page ${JSON.stringify(page)?.slice(0, 500)}, wanted ${JSON.stringify(wanted)?.slice(0, 500)}`);
-}
-const written = (program, ...words) => child.spawnSync(program, words, { maxBuffer: 1 << 30 }).stdout.toString("latin1");
-const trimmed = text => text.split("\n").map(line => line.trimEnd()).join("\n").trim();
-
-// The page of a source and a schedule.
-function pageOf(name, source, schedule) {
-  const [a, b, page] = [".rbl", ".schedule", ".html"].map(ending => path.join(OUT, name + ending));
-  fs.writeFileSync(a, source);
-  fs.writeFileSync(b, schedule);
-  fs.writeFileSync(page, child.spawnSync(RBLVIEW, ["page", path.join(__dirname, "page.html"), a, b], { maxBuffer: 1 << 30 }).stdout);
-  return { page, source: a, schedule: b };
-}
-const example = name => pageOf(name, ...[".rbl", ".schedule"].map(ending => fs.readFileSync(path.join(ROOT, "examples", name + ending))));
-
-async function testErrors(browser, what) {
-  same(`${what} has no errors`, browser.errors.join("; "), "");
-  browser.errors.length = 0;
-}
+const fs = require("fs"), path = require("path");
+const { HOSTILE } = require("./programs.js");
+const { ROOT, OUT, RBL, same, written, trimmed, pageOf, example, testErrors, inBrowser } = require("./driving.js");
 
 // Every turn of an example by the key, with the sentence of each; then its lines and its survivors.
 async function testExample(browser, name) {
   const files = example(name);
-  await browser.open(files.page, 1400, 900, "#theme=light");
+  await browser.open(files.page, 1400, 900, "#theme=light&turn=end");
   same(`${name} lines`, trimmed(await browser.textOf("printed")), trimmed(written(RBL, "run", files.source, files.schedule)));
   await browser.key("s");
-  same(`${name} survivors`, trimmed(await browser.textOf("printed")), trimmed(written(RBL, "survive", files.source, files.schedule)) || "nothing yet");
-  const marks = await browser.ask("document.querySelectorAll('#drawing [data-thing^=\"turn:\"]').length");
-  same(`${name} marks of survivors`, marks, written(RBL, "survive", files.source, files.schedule).split("\n").length - 1);
+  const survivors = written(RBL, "survive", files.source, files.schedule);
+  same(`${name} survivors`, trimmed(await browser.textOf("printed")), trimmed(survivors) || "nothing yet");
+  const marks = await browser.ask("document.querySelectorAll('#drawing .mark[data-turn]').length");
+  same(`${name} marks of survivors`, marks, survivors.split("\n").length - 1);
   await browser.picture(path.join(OUT, `${name}.survivors.png`));
   await browser.key("s");
   await browser.key("Home");
@@ -59,17 +34,26 @@ async function testExample(browser, name) {
   await testErrors(browser, name);
 }
 
+async function testExamples(browser) {
+  const names = fs.readdirSync(path.join(ROOT, "examples")).filter(n => n.endsWith(".rbl")).map(n => n.slice(0, -4));
+  for (const name of names) await testExample(browser, name);
+}
+
+const VARIABLES = "[...document.querySelectorAll('#process > table tbody tr')].map(row => [...row.cells].map(c => c.innerText).join(' ')).join('; ')";
+
 // What the page says and shows in some turns of the fourth step.
 async function testMoments(browser) {
   const { page } = example("step4");
   await browser.open(page, 1400, 900, "#turn=22&theme=light");
-  same("the rejection", await browser.textOf("says"), "Turn 22: alternate 1 of the conversation Deal is rejected for all who are inside: the test of shop does not hold; " +
-    "buyer goes back to turn 3: its turns 5 to 21 are undone; shop goes back to turn 16: its turns 18 to 22 are undone.");
-  same("variables", (await browser.ask("[...document.querySelectorAll('#process tbody tr')].map(row => [...row.cells].map(c => c.innerText).join(' ')).join('; ')")), "bid 40 0; day 3 3");
-  same("its alternate in the source", await browser.ask("[...document.querySelectorAll('.alternate')].map(e => e.innerText).join('')"), '{ receive offer bid; print "sells for", bid; }');
+  same("the rejection", await browser.textOf("says"), "Turn 22: alternate 1 of the conversation Deal is rejected for all who are inside: the test of shop " +
+    "does not hold; buyer goes back to turn 3: its turns 5 to 21 are undone; shop goes back to turn 16: its turns 18 to 22 are undone.");
+  same("variables", await browser.ask(VARIABLES), "bid 40 0; day 3 3");
+  const alternate = await browser.ask("[...document.querySelectorAll('.alternate')].map(e => e.innerText).join('')");
+  same("its alternate in the source", alternate, '{ receive offer bid; print "sells for", bid; }');
   await browser.picture(path.join(OUT, "step4.rejected.png"));
   await browser.open(page, 1400, 900, "#turn=20&process=buyer&theme=dark");
-  same("what would go back", (await browser.ask("document.querySelector('.recoverypoint p:last-child').innerText")), "would put back: price 40 → 0, rest 60 → 100, 1 message taken back from offer, 1 held line dropped");
+  const back = await browser.ask("document.querySelector('.recoverypoint p:last-child').innerText");
+  same("what would go back", back, "would put back: price 40 → 0, rest 60 → 100, 1 message taken back from offer, 1 held line dropped");
   same("held lines", await browser.ask("document.querySelector('#process .lines').innerText"), "13 offers 40");
   same("the channel", await browser.ask("document.querySelector('#channels .cells').innerText.trim()"), "40");
   await browser.picture(path.join(OUT, "step4.dark.png"));
@@ -77,49 +61,56 @@ async function testMoments(browser) {
   same("page down", (await browser.textOf("says")).slice(0, 8), "Turn 22:");
   await browser.key("PageUp");
   same("page up", (await browser.textOf("says")).slice(0, 11), "The opening");
-  const box = JSON.parse(await browser.ask("JSON.stringify((b => [b.x + b.width / 2, b.y + b.height / 2])(document.querySelector('#drawing .future').getBoundingClientRect()))"));
-  await browser.click(...box);
+  const place = "(b => [b.x + 3, b.y + b.height / 2])(document.querySelector('#drawing .future').getBoundingClientRect())";
+  await browser.click(...JSON.parse(await browser.ask(`JSON.stringify(${place})`)));
   same("a click", (await browser.textOf("says")).slice(0, 7), "Turn 1:");
-  await browser.open(page, 800, 600, "#turn=20&theme=light");
-  await browser.picture(path.join(OUT, "step4.small.png"));
-  await testErrors(browser, "moments");
 }
 
-// Everything that can be used has a name for whoever does not see it, and the keyboard reaches it.
-async function testNames(browser) {
-  await browser.open(example("step4").page, 1400, 900);
-  const { nodes } = await browser.send("Accessibility.getFullAXTree");
-  const used = nodes.filter(node => !node.ignored && /^(button|combobox|slider|DisclosureTriangle|image|status|region|group)$/.test(node.role?.value));
-  same("names", used.filter(node => !node.name?.value && node.role.value !== "status" && node.properties?.some(p => p.name === "focusable")).map(node => node.role.value).join(), "");
-  same("buttons", used.filter(node => node.role.value === "button").length >= 12, true);
-  same("the slider says the turn", await browser.ask("document.getElementById('slider').getAttribute('aria-valuetext') === document.getElementById('says').innerText"), true);
-  const reached = [];
-  for (let k = 0; k < 40; k++) {
-    await browser.key("Tab");
-    reached.push(await browser.ask("document.activeElement.id"));
-  }
-  for (const id of ["first", "play", "slider", "survivors", "save", "theme", "picture", "who", "sourcebox", "printedbox"]) same(`the key Tab reaches ${id}`, reached.includes(id), true);
-  await testErrors(browser, "names");
+// At the opening it says how to go on, and no tooltip tells what is to come; at the end it tells the end.
+async function testOpening(browser) {
+  const { page } = example("step4"), isTipHidden = "document.getElementById('tip').hidden";
+  await browser.open(page, 1400, 900, "");
+  same("the page opens at the opening", /^The opening: .* Press → /.test(await browser.textOf("says")), true);
+  await browser.open(page, 1400, 900, "#turn=22");
+  const mark = "document.querySelector('#drawing .mark[data-turn=\"22\"]').getBoundingClientRect()";
+  const place = `(b => [b.x + b.width / 2, b.y + b.height / 2])(${mark})`;
+  const [x, y] = JSON.parse(await browser.ask(`JSON.stringify(${place})`));
+  await browser.send("Input.dispatchMouseEvent", { type: "mouseMoved", x, y });
+  same("a tooltip tells a turn", await browser.ask(`!${isTipHidden} && document.getElementById('tip').innerText.startsWith('Turn 22:')`), true);
+  await browser.key("Home");
+  same("a key hides it", await browser.ask(isTipHidden), true);
+  await browser.send("Input.dispatchMouseEvent", { type: "mouseMoved", x: x + 1, y });
+  same("nothing is told of a turn to come", await browser.ask(isTipHidden), true);
+  await browser.key("End");
+  same("at the end", await browser.ask("document.querySelector('#process thead th:last-child').innerText"), "at the end");
+  const deal = await browser.ask("[...document.querySelectorAll('#channels .box')].pop().querySelector('.note').innerText");
+  same("the alternate that passed", deal, "passed in turn 34 with alternate 2 of 2");
 }
 
 // Texts that try to break out stay texts.
 async function testHostile(browser) {
   const files = pageOf("hostile", HOSTILE.source, HOSTILE.schedule);
-  await browser.open(files.page, 1400, 900, "#theme=light");
-  same("nothing broke out", await browser.ask("typeof broken + document.querySelectorAll('script').length + document.querySelectorAll('img').length"), "undefined40");
+  await browser.open(files.page, 1400, 900, "#theme=light&turn=end");
+  const intruders = "typeof broken + document.querySelectorAll('script').length + document.querySelectorAll('img').length";
+  same("nothing broke out", await browser.ask(intruders), "undefined40");
   same("hostile lines", trimmed(await browser.textOf("printed")), trimmed(written(RBL, "run", files.source, files.schedule)));
-  same("hostile source", trimmed(await browser.ask("[...document.querySelectorAll('#sourcetext code')].map(c => c.textContent).join('\\n')")), trimmed(HOSTILE.source));
-  same("hostile schedule", await browser.ask("document.getElementById('schedule-text').textContent.includes('</script><script>broken = 1</script> @TRACE@')"), true);
+  const source = await browser.ask("[...document.querySelectorAll('#sourcetext code')].map(c => c.textContent).join('\\n')");
+  same("hostile source", trimmed(source), trimmed(HOSTILE.source));
+  const schedule = "document.getElementById('schedule-text').textContent.includes('</script><script>broken = 1</script> @TRACE@')";
+  same("hostile schedule", await browser.ask(schedule), true);
   const put = await browser.ask("['source', 'schedule', 'trace'].map(id => document.getElementById(id).textContent).join('')");
   same("what is put in is ASCII", /^[\t\n -~]*$/.test(put), true);
   const last = await browser.ask("+document.getElementById('slider').max");
   for (let turn = last; turn > 0; turn--) await browser.key("ArrowLeft");
   await browser.ask("document.getElementById('inwords').open = true");
-  same("nothing broke out of words", await browser.ask("typeof broken + document.querySelectorAll('img').length"), "undefined0");
-  const picture = await saved(browser);
-  same("nothing broke out of the picture", await browser.ask(`((d) => d.querySelectorAll("script, img, parsererror").length)(new DOMParser().parseFromString(${JSON.stringify(picture)}, "image/svg+xml"))`), 0);
+  await browser.key("/");
+  await browser.send("Input.insertText", { text: "<img src=x>" });
+  await browser.key("Enter");
+  await browser.ask("dispatchEvent(new Event('beforeprint'))");
+  same("nothing broke out of words, of what is looked for, and on paper", await browser.ask(intruders), "undefined40");
+  const picture = await saved(browser), parsed = `new DOMParser().parseFromString(${JSON.stringify(picture)}, "image/svg+xml")`;
+  same("nothing broke out of the picture", await browser.ask(`${parsed}.querySelectorAll("script, img, parsererror").length`), 0);
   await browser.picture(path.join(OUT, "hostile.png"));
-  await testErrors(browser, "hostile");
 }
 
 // What `save as SVG` saves.
@@ -132,32 +123,6 @@ async function saved(browser) {
   })`);
 }
 
-// How long a step takes, with 32 processes: over 2,000 turns, and in a window of 22,400. Other work on the machine makes steps slower, so it
-// is the quick ones that are asked for.
-async function testSpeed(browser, name, schedule, most) {
-  const { page } = pageOf(name, crowd(32), schedule);
-  await browser.open(page, 1400, 900, "#turn=1200&theme=light");
-  const times = JSON.parse(await browser.ask(`(() => {
-    const slider = document.getElementById("slider"), times = [];
-    for (let k = 0; k < 120; k++) {
-      const from = performance.now();
-      slider.value = 1200 + k;
-      slider.dispatchEvent(new Event("input"));
-      document.getElementById("drawing").getBBox();
-      times.push(performance.now() - from);
-    }
-    return JSON.stringify(times.sort((a, b) => a - b));
-  })()`));
-  const [quick, middle, late] = [times[12], times[60], times[114]].map(time => time.toFixed(1));
-  console.log(`${name}: a step takes ${middle} ms, 10 of 100 at most ${quick} ms, 95 of 100 at most ${late} ms`);
-  same(`${name}: a step is quick`, +quick < most, true);
-  await browser.picture(path.join(OUT, `${name}.png`));
-  await browser.key("ArrowDown");
-  await browser.picture(path.join(OUT, `${name}.folded.png`));
-  if (name === "long") same("a window is told", (await browser.textOf("says")).includes("The picture shows the turns"), true);
-  await testErrors(browser, name);
-}
-
 // The pictures of the pages: each stands under the name of its source, those of the classics in a folder of their own.
 function pictured() {
   const classics = fs.readdirSync(path.join(ROOT, "examples/classics")).filter(n => n.endsWith(".rbl")).map(n => `classics/${n.slice(0, -4)}`);
@@ -165,32 +130,13 @@ function pictured() {
 }
 
 async function makePictures(browser) {
-  for (const folder of [path.join(OUT, "classics"), path.join(ROOT, "docs/pictures/classics")]) fs.mkdirSync(folder, { recursive: true });
+  fs.mkdirSync(path.join(ROOT, "docs/pictures/classics"), { recursive: true });
   for (const name of pictured()) {
-    await browser.open(example(name).page, 1400, 900);
+    await browser.open(example(name).page, 1400, 900, "#turn=end");
     const picture = await saved(browser);
     same(`picture of ${name}`, picture.startsWith("<?xml"), true);
     fs.writeFileSync(path.join(ROOT, "docs/pictures", `${name}.svg`), picture);
   }
 }
 
-async function testAll(browser) {
-  const names = fs.readdirSync(path.join(ROOT, "examples")).filter(n => n.endsWith(".rbl")).map(n => n.slice(0, -4));
-  for (const name of names) await testExample(browser, name);
-  await testMoments(browser);
-  await testNames(browser);
-  await testHostile(browser);
-  await testSpeed(browser, "crowd", "all 62\n", 60);
-  await testSpeed(browser, "long", "all 700\n", 60);
-}
-
-async function main() {
-  fs.mkdirSync(OUT, { recursive: true });
-  const browser = await Browser.start(CHROMIUM);
-  await (process.argv.includes("--pictures") ? makePictures : testAll)(browser);
-  await browser.stop();
-  console.log(`screenshots in ${OUT}`);
-  cases.end();
-}
-
-main();
+inBrowser(process.argv.includes("--pictures") ? [makePictures] : [testExamples, testMoments, testOpening, testHostile]);

@@ -19,6 +19,7 @@ function makeEditor(name, title, grammar) {
     changed();
   });
   indentWrapped(editors[name]);
+  if (name === "program") editors[name].on("gutterClick", (_, line) => tellPicture({ line: line + 1 }));
 }
 
 // What goes on behind the edge stands as far in as its line begins.

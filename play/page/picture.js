@@ -1,5 +1,5 @@
 /* The picture of a run: the page of view/ in a frame, which is told each run and draws it. */
-const MOST_DRAWN = 20000;
+const MOST_DRAWN = 100000;
 const LONG = `one of up to ${many(MOST_DRAWN, "turn")} is drawn. The other tabs tell of it.`;
 const OLD = "This is the picture of the last run, before the texts were changed.";
 const picture = { frame: null, isReady: null, run: null };

@@ -1,7 +1,7 @@
 /* Conversations: a field over the lanes of the members for each alternate, from the recovery line to the test line. */
 function drawConversations(scene) {
-  const seen = run.sessions.filter(s => s.from <= scene.now && !scene.isLeftOut(s.from) && scene.sees(scene.x(s.from), scene.known(s.end) ? scene.x(s.end) : scene.end));
-  for (const session of seen.sort((a, b) => a.depth - b.depth)) {
+  for (const session of scene.near("sessions").sort((a, b) => a.depth - b.depth)) {
+    if (session.from > scene.now || scene.isLeftOut(session.from)) continue;
     const entries = session.entries.filter(e => e.turn <= scene.now && !scene.isLeftOut(e.turn)).sort((a, b) => a.process - b.process);
     if (!entries.length) continue;
     session.tries.filter((one, k) => k === 0 || one.from <= scene.now).forEach((one, k) => drawTry(scene, session, entries, one, k));
@@ -9,7 +9,10 @@ function drawConversations(scene) {
   }
 }
 
-const fieldTop = (scene, session, p) => scene.lanes[p].top + Math.min(session.depth, MOST_ROWS - 1, scene.lanes[p].rows) * scene.lanes[p].row + 1;
+function fieldTop(scene, session, p) {
+  const lane = scene.lanes[p];
+  return lane.top + Math.min(session.depth, MOST_ROWS - 1, lane.rows) * lane.row + 1;
+}
 const fieldBottom = (scene, session, p) => scene.lanes[p].bottom - (scene.lanes[p].folded ? 0 : session.depth * 2);
 
 function drawTry(scene, session, entries, one, k) {
@@ -18,11 +21,12 @@ function drawTry(scene, session, entries, one, k) {
   if (state.survivors && dead) return;
   const members = entries.filter(e => !ended || e.turn < ended);
   const right = ended ? scene.x(ended) + (how === "accepted" ? scene.edge : 0) : scene.end;
-  const left = e => state.survivors || e.turn > one.from || k === 0 ? scene.x(e.turn) : scene.x(one.from) + 3;
+  const left = e => state.survivors || e.turn > one.from || k === 0 ? scene.x(e.turn) : scene.x(one.from) + Math.min(3, scene.width / 2);
   const key = `try:${session.id}:${k}`, colour = `field${session.depth % 3}`;
   scene.under.push(scene.thing(key, "", `<path class="${colour}${dead ? " gone" : ""}" d="${fieldPath(scene, session, members, left, right)}"/>`));
   nameTry(scene, session, members, one, left, right, dead ? " gone" : how === "accepted" ? " good" : "");
-  if (how === "rejected" || how === "undone") scene.over.push(acrossLanes(scene, session, members, "ended" + (gone || how === "undone" ? " gone" : ""), right));
+  const isEnded = how === "rejected" || how === "undone";
+  if (isEnded) scene.over.push(acrossLanes(scene, session, members, "ended" + (gone || how === "undone" ? " gone" : ""), right));
   if (how === "accepted") drawTestLine(scene, session, members, right, gone ? " gone" : "", key);
 }
 
@@ -31,7 +35,8 @@ function fieldPath(scene, session, members, left, right) {
   members.forEach((e, i) => {
     const top = fieldTop(scene, session, e.process), bottom = fieldBottom(scene, session, e.process), next = members[i + 1];
     path += `M${left(e)} ${top}H${right}V${bottom}H${left(e)}Z`;
-    if (next && next.process === e.process + 1) path += `M${left(e)} ${bottom - 0.5}H${right}V${fieldTop(scene, session, next.process) + 0.5}H${left(next)}Z`;
+    if (!next || next.process !== e.process + 1) return;
+    path += `M${left(e)} ${bottom - 0.5}H${right}V${fieldTop(scene, session, next.process) + 0.5}H${left(next)}Z`;
   });
   return path;
 }
@@ -40,9 +45,10 @@ function fieldPath(scene, session, members, left, right) {
 function nameTry(scene, session, members, one, left, right, how) {
   const e = members.find(m => !scene.lanes[m.process].folded && scene.lanes[m.process].bottom > scene.window.y + AXIS + 8);
   if (!e) return;
-  const from = Math.max(left(e), scene.leftEdge), room = right - from, { name } = run.conversations[session.conversation];
-  const text = room > (name.length + 14) * 6 ? `${name}, alternate ${one.alternate}` : room > (name.length + 3) * 6.2 ? `${name} ${one.alternate}` : room > 12 ? one.alternate : "";
-  if (text) scene.over.push(`<text class="number${how}" x="${from + 5}" y="${fieldTop(scene, session, e.process) + 11}">${escaped(text)}</text>`);
+  const from = Math.max(left(e), scene.leftEdge), { name } = scene.run.conversations[session.conversation];
+  const texts = [`${name}, alternate ${one.alternate}`, `${name} ${one.alternate}`, String(one.alternate)];
+  const rank = how === " gone" ? "rejected" : "conversation";
+  scene.labels.ask(rank, from + 5, fieldTop(scene, session, e.process) + 11, texts, `number${how}`, { most: right - from - 7 });
 }
 
 // An upright line through the lanes of the members; through those of others it is dotted.
@@ -62,7 +68,7 @@ function drawTestLine(scene, session, members, x, gone, key) {
   scene.over.push(scene.thing(key, "", lines.join("")));
   if (scene.dense || session.depth > 0) return;
   const bottom = fieldBottom(scene, session, members[members.length - 1].process);
-  scene.over.push(`<text class="legend tests${gone}" x="${x}" text-anchor="middle" y="${bottom + 12}">test line</text>`);
+  scene.labels.ask("line", x, bottom + 12, ["test line"], `legend tests${gone}`, { font: FONTS.plain, isMiddle: true });
 }
 
 // The recovery line: through the entries of all members.
@@ -79,6 +85,6 @@ function drawRecoveryLine(scene, session, entries) {
   const shapes = `<path class="recovery${gone}" d="${near}"/>` + (far ? `<path class="recovery far${gone}" d="${far}"/>` : "");
   scene.over.unshift(scene.thing(`recovery:${session.id}`, "", shapes));
   if (scene.dense || session.depth > 0) return;
-  const last = entries[entries.length - 1];
-  scene.over.push(`<text class="legend recoveries${gone}" x="${scene.x(last.turn) - 2}" y="${fieldBottom(scene, session, last.process) + 12}">recovery line</text>`);
+  const last = entries[entries.length - 1], y = fieldBottom(scene, session, last.process) + 12;
+  scene.labels.ask("line", scene.x(last.turn) - 2, y, ["recovery line"], `legend recoveries${gone}`, { font: FONTS.plain });
 }

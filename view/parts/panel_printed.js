@@ -1,28 +1,38 @@
 /* What `rbl run` has written so far; or, of survivors only, what `rbl survive` writes. */
-const MOST_LINES = 200;
+const MOST_LINES = 200, MOST_WORDS = 2000;
 
-function linesSoFar() {
+// The last of these lines, and how many lie before them.
+function linesSoFar(most) {
   const t = state.turn > LAST ? run.count : state.turn;
-  if (state.survivors) return Model.record(run, t).map(line => ({ turn: +line.split(" ")[0], line }));
-  const lines = Model.printed(run, t);
-  return state.turn === END ? lines.concat(run.ending.map(line => ({ turn: -1, line }))) : lines;
+  if (state.survivors) {
+    const lines = Model.record(run, t).map(line => ({ turn: +line.split(" ")[0], line })), before = Math.max(0, lines.length - most);
+    return { before, lines: lines.slice(before) };
+  }
+  const printed = Model.printed(run, t, most), before = Model.countPrinted(run, t) - printed.length;
+  const lines = state.turn >= run.end ? printed.concat(run.ending.map(line => ({ turn: -1, line }))) : printed;
+  return { before, lines };
 }
 
 function showPrinted() {
-  const lines = linesSoFar(), first = Math.max(0, lines.length - MOST_LINES);
+  const { before, lines } = linesSoFar(MOST_LINES);
   element("printedtitle").textContent = state.survivors ? "What rbl survive writes" : "What rbl run has written";
-  const rows = lines.slice(first).map(({ turn, line }) => {
+  const rows = lines.map(({ turn, line }) => {
     const names = [turn === state.turn ? "new" : "", /^\d+ (reject|error) /.test(line) ? "back" : ""].filter(Boolean).join(" ");
     return `<div${names ? ` class="${names}"` : ""} data-turn="${turn}">${escaped(line)}</div>`;
   });
-  element("printed").innerHTML = (first ? `<p class="note">… ${many(first, "line")} before</p>` : "") + (rows.join("") || '<p class="note">nothing yet</p>');
+  const left = before > 0 ? `<p class="note">… ${many(before, "line")} before</p>` : "";
+  setMarkup("printed", left + (rows.join("") || '<p class="note">nothing yet</p>'));
 }
 
-// Every turn in words, made when it is asked for.
+// The turns around the chosen one in words, made when they are asked for.
 function showWords() {
-  const list = element("wordlist");
-  if (!element("inwords").open || list.children.length) return;
-  const turns = run.turns.filter(turn => turn.number <= LAST && turn.kind !== "idle").map(turn => turn.number);
-  if (END > LAST) turns.push(END);
-  list.innerHTML = turns.map(turn => `<li data-turn="${turn}">${escaped(sentence(turn))}</li>`).join("");
+  if (!element("inwords").open) return;
+  const first = LAST <= MOST_WORDS ? 1 : Math.min(state.turn, LAST) - MOST_WORDS / 2;
+  const from = Math.max(1, first), to = Math.min(LAST, from + MOST_WORDS);
+  const turns = [];
+  for (let turn = from; turn <= to; turn++) if (run.turns[turn].kind !== "idle") turns.push(turn);
+  if (to === LAST && run.end > LAST) turns.push(run.end);
+  const isPart = from > 1 || to < LAST, note = `the turns ${grouped(from)} to ${grouped(to)}; open it anew at another turn for others`;
+  const left = isPart ? `<li class="note">${note}</li>` : "";
+  element("wordlist").innerHTML = left + turns.map(turn => `<li data-turn="${turn}">${escaped(sentence(turn))}</li>`).join("");
 }

@@ -30,12 +30,12 @@ function markAlternate(marks, { from, to }, colour) {
 
 // The place of the last turn of the shown process, if it is told, or the line of the block of its `ensure`.
 function markPlace(marks, t) {
-  const last = lastTurnOf(state.process, t), turn = last ? run.turns[last] : null;
+  const last = Model.lastUpTo(run.processes[state.process].turns, t), turn = last ? run.turns[last] : null;
   if (!turn || t > LAST) return -1;
   const name = last === t ? (turn.kind === "undone" ? "place undone" : "place") : "place before";
   if (turn.place) return markStatement(marks, turn.place, name);
   if (turn.kind === "took" && (turn.what[0] === "enter" || turn.what[0] === "start")) return markEnsure(marks, +turn.what[1], name);
-  if (isTest(turn) || turn.kind === "undone" || turn.what[0] === "at") {
+  if (isTest(run, turn) || turn.kind === "undone" || turn.what[0] === "at") {
     const levels = run.processes[state.process].levels.at(last - 1);
     return levels.length && (turn.kind !== "undone" || turn.backs.length) ? markEnsure(marks, levels[levels.length - 1].block, name) : -1;
   }
@@ -68,16 +68,9 @@ function endOfStatement(text, from) {
   return text.length;
 }
 
-// The last turn of a process that was not idle, up to t.
-function lastTurnOf(process, t) {
-  const { turns } = run.processes[process];
-  let low = 0, high = turns.length;
-  while (low < high) { const middle = (low + high) >> 1; if (turns[middle] <= t) low = middle + 1; else high = middle; }
-  return low ? turns[low - 1] : 0;
-}
-
 function lineAsMarkup(text, pieces) {
-  const cuts = [...new Set([0, text.length, ...pieces.flatMap(([from, to]) => [Math.min(from, text.length), Math.min(to, text.length)])])].sort((a, b) => a - b);
+  const ends = pieces.flatMap(([from, to]) => [Math.min(from, text.length), Math.min(to, text.length)]);
+  const cuts = [...new Set([0, text.length, ...ends])].sort((a, b) => a - b);
   return cuts.slice(0, -1).map((from, k) => {
     const names = pieces.filter(piece => piece[0] <= from && cuts[k + 1] <= piece[1]).map(piece => piece[2]).join(" ");
     const part = escaped(text.slice(from, cuts[k + 1]));
@@ -86,23 +79,30 @@ function lineAsMarkup(text, pieces) {
 }
 
 // Where the statement of the chosen turn stands: its pieces.
-const placesIn = marks => marks.flatMap(({ pieces }, line) => pieces.filter(([, , name]) => name.startsWith("place")).map(([from, to, name]) => ({ line, from, to, name })));
+const placesIn = marks => marks.flatMap(({ pieces }, line) =>
+  pieces.filter(([, , name]) => name.startsWith("place")).map(([from, to, name]) => ({ line, from, to, name })));
 
 // Shows the source at the chosen turn, and answers what brings the line into sight.
 function showSource() {
   const t = Math.min(state.turn, LAST), marks = sourceMarks(t), place = markPlace(marks, state.turn);
   state.tell(placesIn(marks));
-  ROWS.forEach((row, line) => {
-    const { pieces, bars } = marks[line], sign = `${bars}|${line === place}|${pieces.join(";")}`;
-    if (row.sign === sign) return;
-    row.sign = sign;
-    row.className = line === place ? "row here" : "row";
-    row.innerHTML = `<b>${line + 1}</b><u>${bars}</u><code>${lineAsMarkup(SOURCE_LINES[line], pieces) || " "}</code>`;
-  });
+  ROWS.forEach((row, line) => showRow(row, line, marks[line], line === place));
   const levels = run.processes.length ? run.processes[state.process].levels.at(t) : [];
   const open = levels.length ? BLOCKS[levels[levels.length - 1].block] : null;
   const line = place >= 0 ? place : open ? open.ensure.line : run.processes.length ? lineOfProcess(SOURCE_LINES, nameOf(state.process)) : -1;
   return () => intoSight(element("sourcebox"), line < 0 ? null : ROWS[line]);
+}
+
+// A row of the source is made anew where something of it is another.
+function showRow(row, line, { pieces, bars }, isHere) {
+  const isChosen = isAsked("line", { line: line + 1 }), sign = `${bars}|${isHere}|${isChosen}|${pieces.join(";")}`;
+  if (row.sign === sign) return;
+  row.sign = sign;
+  row.className = `row${isHere ? " here" : ""}${isChosen ? " chosen" : ""}`;
+  const turns = Model.turnsOfLine(run, line + 1).length, label = `line ${line + 1}: ${many(turns, "turn")} carried it out`;
+  const asks = `data-line="${line + 1}" title="the turns that carried it out" aria-label="${label}" aria-pressed="${isChosen}"`;
+  const number = turns ? `<button class="link" ${asks}>${line + 1}</button>` : line + 1;
+  row.innerHTML = `<b>${number}</b><u>${bars}</u><code>${lineAsMarkup(SOURCE_LINES[line], pieces) || " "}</code>`;
 }
 
 function intoSight(box, row) {

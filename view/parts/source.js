@@ -54,4 +54,3 @@ function lineOfProcess(lines, name) {
   return at < 0 ? -1 : words[at].line;
 }
 
-if (typeof module !== "undefined") module.exports = { wordsOfSource, blocksOfSource, beginOfStatement, lineOfProcess };

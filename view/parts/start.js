@@ -12,80 +12,85 @@ function readAddress() {
     if (what === "turn") state.turn = value === "end" ? END : Math.max(0, Math.min(END, Math.floor(+value) || 0));
     if (what === "process" && run.numberOf.process.has(value)) Object.assign(state, { process: run.numberOf.process.get(value), follow: false });
     if (what === "survivors") state.survivors = true;
+    if (what === "past") state.past = true;
     if (what === "theme" && PALETTES[value]) state.theme = value;
     if (what === "help") element("help").open = true;
   }
 }
 
-// Small strokes below the slider, for the turns that tell something.
-function drawStrip() {
-  const kinds = [["error", 0], ["reject", 2], ["pass", 3]];
-  element("strip").innerHTML = run.tellingTurns.filter(turn => turn > 0).map(turn => {
-    const [name, y] = kinds.find(([word]) => run.turns[turn].said.some(line => line.startsWith(word))) || ["out", 6];
-    return `<path class="${name}" d="M${(1000 * turn / Math.max(1, END)).toFixed(2)} ${y}V10"/>`;
-  }).join("");
-}
-
-// A small run is drawn larger.
+// A small run is drawn larger, as far as there is room.
 function setSize() {
-  const layout = layOut(END, 12), tall = Math.max(190, innerHeight * (innerHeight < 700 ? 0.42 : 0.6));
-  view.scale = Math.max(1, Math.min(1.3, tall * 0.7 / layout.high, innerWidth / (layout.wide * 1.15)));
-  element("picture").style.height = `${Math.min(layout.high * view.scale + 18, tall)}px`;
+  const high = RUNS.reduce((sum, one) => sum + layOut(one, END, 12).high, 0), wide = layOut(run, END, 12).wide;
+  const tall = Math.max(190, innerHeight * (innerWidth < 701 ? 0.36 : innerHeight < 700 ? 0.42 : RUNS.length > 1 ? 0.6 : 0.5));
+  view.scale = Math.max(1, Math.min(1.3, tall * 0.7 / high, innerWidth / (wide * 1.15)));
+  element("picture").style.height = `${Math.min(high * view.scale + 18, tall)}px`;
 }
 
 // What is there for all runs that the page shows.
 function listen() {
   addStyle();
   matchMedia("(prefers-color-scheme: dark)").addEventListener("change", () => setTheme(state.theme));
-  listenToKeys();
-  listenToButtons();
-  listenToMouse();
-  listenToPrinting();
+  const ofPicture = [listenToPointing, listenToZooming, listenToOverview], ofPanels = [listenToAsking, listenToProcess, listenToChannels];
+  for (const part of [listenToKeys, listenToControls, ...ofPicture, ...ofPanels, listenToPrinting]) part();
 }
 
 // Takes a run, in place of the one that was there: the end stays chosen, and so does a turn that is there again.
-function take(source, schedule, trace) {
-  const isAtEnd = !run || state.turn === END, who = run && !state.follow ? nameOf(state.process) : "";
-  readRun(source, schedule, trace);
-  measureRun();
+function take(texts) {
+  const other = state.kept && (state.kept.trace !== texts.trace || state.kept.source !== texts.source) ? state.kept : null;
+  const isAtEnd = run !== null && state.turn > 0 && state.turn === END, who = run && !state.follow ? nameOf(state.process) : "";
+  takeRuns(texts, other);
   layRows();
   const process = run.numberOf.process.get(who);
-  Object.assign(state, { turn: isAtEnd ? END : Math.min(state.turn, END), process: process || 0, follow: process === undefined, first: 1 });
+  Object.assign(state, { turn: isAtEnd ? END : Math.min(state.turn, END), process: process || 0, follow: process === undefined });
+  askAnew();
 }
 
 function showRun() {
   document.title = `${TITLE}: a run`;
   element("title").textContent = TITLE;
   element("slider").max = END;
-  element("who").innerHTML = `<option value="-1">whose turn it is</option>` + run.processes.map(p => `<option value="${p.number}">${escaped(p.name)}</option>`).join("");
-  element("schedule-text").textContent = SCHEDULE.trim();
+  element("goto").style.width = `${String(run.count).length + 3}ch`;
+  const options = run.processes.map(p => `<option value="${p.number}">${escaped(p.name)}</option>`);
+  element("who").innerHTML = `<option value="-1">whose turn it is</option>${options.join("")}`;
+  element("schedule-text").textContent = run.schedule.trim();
   element("drawing").setAttribute("aria-label", `${summary(END)}. The arrow keys step through it.`);
-  element("wordlist").textContent = "";
-  showWords();
-  drawStrip();
-  moveWindow();
   setSize();
   measure();
+  layOverview();
+  drawWhole();
   show();
+  showWords();
 }
 
-// A page around this one tells its runs: a source, a schedule, a trace, and the theme. It shows the source itself, and is told where in it a turn is.
+// Keeps the run that is shown, so that the next one is drawn beside it; or gives up the one that was kept.
+function keep() {
+  const { texts } = RUNS[0];
+  state.kept = state.kept ? null : texts;
+  take(texts);
+  showRun();
+}
+
+// A page around this one tells its runs: a source, a schedule and a trace; a line that is asked for; and the theme. It shows the source itself, and
+// is told where in it a turn is.
 function listenToPage() {
   let isListening = false;
   addEventListener("message", ({ source, data }) => {
     if (source !== parent || parent === window) return;
-    setTheme(PALETTES[data.theme] ? data.theme : "");
+    if (data.theme !== undefined) setTheme(PALETTES[data.theme] ? data.theme : "");
+    if (data.line !== undefined && isListening) ask("line", { line: data.line });
     if (data.trace === undefined) return;
     document.documentElement.dataset.within = "yes";
+    if (element("panels").dataset.tab === "source") chooseTab("process");
     state.tell = places => source.postMessage({ places }, "*");
-    take(data.source, data.schedule, data.trace);
+    take({ source: data.source, schedule: data.schedule, trace: data.trace });
     if (!isListening) listen();
     isListening = true;
     showRun();
   });
 }
 
-take(textOf("source"), textOf("schedule"), textOf("trace"));
+chooseTab("source");
+take({ source: textOf("source"), schedule: textOf("schedule"), trace: textOf("trace") });
 if (run.processes.length) {
   listen();
   readAddress();

@@ -1,31 +1,43 @@
-/* Stepping: by buttons, keys, the slider and the mouse. */
+/* Stepping through the run. */
 function go(turn) {
   state.turn = Math.max(0, Math.min(END, turn));
   show();
 }
 
+// To a turn by its number, as a reader types it; of the idle turns at the end, to their column.
+function goNumber(text) {
+  const turn = Math.floor(Number(String(text).replace(/[,\s]/g, "")));
+  if (Number.isFinite(turn)) go(turn > END ? END : turn); else show(true);
+}
+
 // To the turn before or behind in which the run writes something.
 function goTelling(way) {
-  const turns = run.tellingTurns.filter(turn => turn > 0);
-  go(way > 0 ? turns.find(turn => turn > state.turn) || END : turns.filter(turn => turn < state.turn).pop() || 0);
+  if (way > 0) go(Model.firstBehind(run.tellingTurns, state.turn) || END);
+  else go(Model.lastUpTo(run.tellingTurns, Math.min(state.turn, END) - 1));
 }
 
 // To a turn of the shown process.
 function goOwn(way) {
-  const turns = run.processes[state.process].turns.filter(turn => turn <= LAST);
-  go((way > 0 ? turns.find(turn => turn > state.turn) : turns.filter(turn => turn < state.turn).pop()) || state.turn);
+  const { turns } = run.processes[state.process], turn = way > 0 ? Model.firstBehind(turns, state.turn) : Model.lastUpTo(turns, state.turn - 1);
+  go(turn && turn <= LAST ? turn : state.turn);
 }
 
+function goParting() {
+  if (PARTINGS.length) go(PARTINGS[0].turns[0]);
+}
+
+// Plays, up to the end or to a turn that answers the question that was asked.
 function play() {
   if (state.playing) { clearInterval(state.playing); state.playing = 0; show(); return; }
   if (state.turn >= END) state.turn = 0;
-  state.playing = setInterval(() => state.turn >= END ? play() : go(state.turn + 1), +element("speed").value);
+  state.playing = setInterval(playOn, +element("speed").value);
   show();
 }
 
-function zoom(factor) {
-  state.width = factor ? Math.max(4, Math.min(48, (state.width || fittingWidth()) * factor)) : 0;
-  show();
+function playOn() {
+  if (state.turn >= END) { play(); return; }
+  go(state.turn + 1);
+  if (state.asked && Model.lastUpTo(state.asked.turns, state.turn) === state.turn) play();
 }
 
 function choose(process) {
@@ -35,64 +47,39 @@ function choose(process) {
 
 function followTurns() { state.follow = true; show(); }
 function toggleSurvivors() { state.survivors = !state.survivors; show(); }
+function togglePast() { state.past = !state.past; show(true); }
 function toggleHelp() { element("help").open = !element("help").open; }
+
+function focusOn(id) {
+  element(id).focus();
+  element(id).select();
+}
 
 const KEYS = {
   ArrowLeft: event => event.shiftKey ? goOwn(-1) : go(state.turn - 1),
   ArrowRight: event => event.shiftKey ? goOwn(1) : go(state.turn + 1),
   ArrowUp: () => choose(state.process - 1), ArrowDown: () => choose(state.process + 1),
   Home: () => go(0), End: () => go(END), PageUp: () => goTelling(-1), PageDown: () => goTelling(1),
-  " ": play, s: toggleSurvivors, "+": () => zoom(1.3), "-": () => zoom(1 / 1.3), 0: () => zoom(0), "?": toggleHelp,
-  Escape() { element("help").open = false; element("tip").hidden = true; },
+  " ": play, s: toggleSurvivors, c: togglePast, d: goParting, g: () => focusOn("goto"), "/": () => focusOn("find"),
+  n: () => goAnswer(1), p: () => goAnswer(-1),
+  "+": () => zoom(1.3), "-": () => zoom(1 / 1.3), 0: zoomWhole, "?": toggleHelp,
+  Escape() {
+    if (element("help").open || element("more").open) for (const id of ["help", "more"]) element(id).open = false; else forget();
+    element("tip").hidden = true;
+  },
 };
+
+const isTyping = target => target.tagName === "SELECT" || (target.tagName === "INPUT" && target.type !== "range");
 
 function listenToKeys() {
   document.addEventListener("keydown", event => {
     const { tagName } = event.target;
-    if (event.ctrlKey || event.metaKey || event.altKey || tagName === "SELECT") return;
-    if (event.key === " " && (tagName === "BUTTON" || tagName === "SUMMARY")) return;
+    if (event.ctrlKey || event.metaKey || event.altKey) return;
+    if (isTyping(event.target)) { if (event.key === "Escape") event.target.blur(); return; }
+    if ((event.key === " " || event.key === "Enter") && (tagName === "BUTTON" || tagName === "SUMMARY")) return;
     if (!Object.hasOwn(KEYS, event.key)) return;
     event.preventDefault();
     KEYS[event.key](event);
   });
-}
-
-function listenToButtons() {
-  const buttons = {
-    first: () => go(0), last: () => go(END), back: () => go(state.turn - 1), on: () => go(state.turn + 1), telledbefore: () => goTelling(-1), telledbehind: () => goTelling(1),
-    play, survivors: toggleSurvivors, wider: () => zoom(1.3), narrower: () => zoom(1 / 1.3), fit: () => zoom(0), save, print: () => print(),
-  };
-  for (const [id, does] of Object.entries(buttons)) element(id).addEventListener("click", does);
-  element("slider").addEventListener("input", event => go(+event.target.value));
-  element("who").addEventListener("change", event => event.target.value === "-1" ? followTurns() : choose(+event.target.value));
-  element("theme").addEventListener("change", event => { setTheme(event.target.value); show(true); });
-  element("inwords").addEventListener("toggle", showWords);
-  for (const id of ["printed", "wordlist"]) {
-    element(id).addEventListener("click", event => { const row = event.target.closest("[data-turn]"); if (row && +row.dataset.turn >= 0) go(+row.dataset.turn); });
-  }
-}
-
-function listenToMouse() {
-  const svg = element("drawing"), tip = element("tip");
-  svg.addEventListener("click", event => {
-    const box = svg.getBoundingClientRect(), x = (event.clientX - box.left) / view.scale, y = (event.clientY - box.top + view.y) / view.scale;
-    const lane = view.layout.lanes.findIndex(l => y >= l.top - 6 && y <= l.bottom + 6);
-    if (x < LEFT - 4) { if (lane >= 0) choose(lane); return; }
-    const thing = event.target.closest("[data-thing]"), [what, which] = thing ? thing.dataset.thing.split(":") : [""];
-    if (what === "turn") go(+which);
-    else if (what === "return") go(run.returns[which].turn);
-    else go(turnAt(view.layout, x + view.x / view.scale));
-  });
-  svg.addEventListener("mousemove", event => {
-    const thing = event.target.closest("[data-thing]");
-    tip.hidden = !thing;
-    if (!thing) return;
-    tip.textContent = wordsOfThing(thing.dataset.thing, Math.min(state.turn, LAST));
-    tip.style.left = `${Math.min(event.clientX + 14, innerWidth - tip.offsetWidth - 8)}px`;
-    tip.style.top = `${event.clientY + 18 + tip.offsetHeight > innerHeight ? event.clientY - tip.offsetHeight - 10 : event.clientY + 18}px`;
-  });
-  svg.addEventListener("mouseleave", () => { tip.hidden = true; });
-  let asked = 0;
-  element("picture").addEventListener("scroll", () => { asked = asked || requestAnimationFrame(() => { asked = 0; measure(); draw(); }); });
-  new ResizeObserver(() => { measure(); show(true); }).observe(element("picture"));
+  addEventListener("pointerdown", event => { for (const id of ["help", "more"]) if (!element(id).contains(event.target)) element(id).open = false; });
 }

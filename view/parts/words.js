@@ -1,8 +1,11 @@
 /* A turn in words. */
 const CAUSES = {
-  test: "its test does not hold", fail: "it says `fail`", overrun: "it has used up its turns", zero: "it divides by 0", overflow: "a number does not fit",
-  index: "an array has no such element", range: "a quantified expression has too many numbers", stack: "it has too many variables", calls: "it has too many open calls",
-  depth: "it has too many open blocks", hold: "it holds too many lines", inner: "a block inside has no alternate left", broken: "the conversation is broken",
+  test: "its test does not hold", fail: "it says `fail`", overrun: "it has used up its turns", zero: "it divides by 0",
+  overflow: "a number does not fit",
+  index: "an array has no such element", range: "a quantified expression has too many numbers", stack: "it has too many variables",
+  calls: "it has too many open calls",
+  depth: "it has too many open blocks", hold: "it holds too many lines", inner: "a block inside has no alternate left",
+  broken: "the conversation is broken",
 };
 
 // A line `reject`, without its turn.
@@ -13,10 +16,18 @@ function rejection(line) {
   return `alternate ${w[2]} of the conversation ${w[1]} is rejected for all who are inside: ${why}`;
 }
 
+// The ways back of a turn: they stand in the order of turns.
+function returnsIn(turn) {
+  if (run.returnTurns === undefined) run.returnTurns = run.returns.map(back => back.turn);
+  return run.returns.slice(Model.countUpTo(run.returnTurns, turn - 1), Model.countUpTo(run.returnTurns, turn));
+}
+
 function undoneWords(turn) {
   const rejections = turn.said.filter(line => line.startsWith("reject ")).map(rejection);
-  const backs = run.returns.filter(r => r.turn === turn.number).map(r =>
-    `${nameOf(r.process)} goes back to turn ${r.to}: ` + (r.undone.length ? `its ${turnsIn(r.undone)} ${r.undone.length === 1 ? "is" : "are"} undone` : "nothing of it is undone"));
+  const backs = returnsIn(turn.number).map(r => {
+    const undone = r.undone.length ? `its ${turnsIn(r.undone)} ${r.undone.length === 1 ? "is" : "are"} undone` : "nothing of it is undone";
+    return `${nameOf(r.process)} goes back to turn ${r.to}: ${undone}`;
+  });
   return [rejections.join("; and so "), ...backs];
 }
 
@@ -29,9 +40,9 @@ function waitWords(turn, p) {
   return `${p} waits at the test line of ${name} for ${listed(late.map(nameOf))}`;
 }
 
-// Whether the turn was an acceptance test that held.
-function isTest(turn) {
-  if (turn.kind !== "took" || turn.what[0] !== "step") return false;
+// Whether a turn of a run was an acceptance test that held.
+function isTest(run, turn) {
+  if (turn.kind !== "took" || turn.what[0] !== "step" || turn.line || turn.changes.length) return false;
   const p = run.processes[turn.process], before = turn.number - 1;
   if (p.levels.at(turn.number).length < p.levels.at(before).length) return true;
   return p.state.at(turn.number).is === "line" && p.state.at(before).is !== "line";
@@ -54,12 +65,13 @@ function wordsOfTheSource() {
 }
 
 function stepWords(turn, p) {
-  if (isTest(turn)) return testWords(turn, p);
+  if (isTest(run, turn)) return testWords(turn, p);
   if (turn.line) return `${p} prints “${turn.line.text}”; inside a block, the line is held`;
   const change = turn.changes[0], begin = turn.place ? beginOfStatement(wordsOfTheSource(), turn.place) : null, word = begin ? begin.word : "";
+  const element = change && change.index !== null ? `[${change.index}]` : "";
   if (word === "if" || word === "while") return `${p} evaluates the test of its \`${word}\``;
   if (word === "call") return `${p} calls a procedure`;
-  if (change) return `${p} sets ${change.variable.name}${change.index === null ? "" : `[${change.index}]`} to ${change.now}; it was ${change.before}`;
+  if (change) return `${p} sets ${change.variable.name}${element} to ${change.now}; it was ${change.before}`;
   if (turn.said.some(line => line.startsWith("out "))) return `${p} prints`;
   return `${p} takes a step that leaves its variables as they are`;
 }
@@ -69,11 +81,13 @@ function tookWords(turn, p) {
   if (what === "enter") return `${p} enters ${blockName(run.blocks[name])}, and sets a recovery point`;
   if (what === "start") return `${p} starts alternate ${number} of ${run.blocks[name].alternates} of ${blockName(run.blocks[name])}`;
   if (what === "send") {
-    const channel = run.channels[run.numberOf.channel.get(name)], sees = channel.numbers.at(turn.number).seen >= turn.message.number;
+    const channel = run.channels[run.numberOf.channel.get(name)];
+    const sees = channel.numbers.at(turn.number).seen >= turn.message.number;
     return `${p} sends ${turn.message.value} on ${name}; ${nameOf(channel.to)} ${sees ? "can take it" : "can not see it yet"}`;
   }
   if (what === "receive") {
-    return turn.receipt ? `${p} receives ${turn.receipt.message.value} from ${name}, sent in turn ${turn.receipt.sent}` : `${p} finds nothing on ${name}, and goes on with \`else\``;
+    if (!turn.receipt) return `${p} finds nothing on ${name}, and goes on with \`else\``;
+    return `${p} receives ${turn.receipt.message.value} from ${name}, sent in turn ${turn.receipt.sent}`;
   }
   return stepWords(turn, p);
 }
@@ -97,14 +111,25 @@ function turnWords(turn) {
   return [run.processes[turn.process].state.at(turn.number).is === "failed" ? `${p} has failed, and does nothing` : `${p} is done, and does nothing`];
 }
 
+// How many turns stand, and how many were undone, at the end.
+function countsAtEnd() {
+  if (run.counts === undefined) {
+    let undone = 0;
+    run.undoneIn.forEach(() => undone++);
+    run.counts = { stand: survivorsAt(run, LAST).length, undone };
+  }
+  return run.counts;
+}
+
 function endWords() {
   const those = (is, one, more) => {
     const names = run.processes.filter(p => is.includes(p.state.at(LAST).is)).map(p => p.name);
     return names.length ? [`${names.length > 6 ? names.length + " processes" : listed(names)} ${names.length === 1 ? one : more}`] : [];
   };
-  const stand = Model.survivors(run, LAST).length, undone = run.turns.filter(turn => turn.number > 0 && Model.isUndone(run, turn.number, LAST)).length;
-  const ends = [...those(["done"], "is done", "are done"), ...those(["failed"], "has failed", "have failed"), ...those(["runs", "line"], "has not come to its end", "have not come to their ends")];
-  return `The end, after ${many(run.count, "turn")}: ${ends.join("; ")}. ${many(stand, "turn")} ${stand === 1 ? "stands" : "stand"}, ${many(undone, "was", "were").replace(/(\d+) (\w+)/, "$1 $2 undone")}; in the others a process waited or was idle.`;
+  const { stand, undone } = countsAtEnd(), open = those(["runs", "line"], "has not come to its end", "have not come to their ends");
+  const ends = [...those(["done"], "is done", "are done"), ...those(["failed"], "has failed", "have failed"), ...open].join("; ");
+  return `The end, after ${many(run.count, "turn")}: ${ends}. ${many(stand, "turn")} ${stand === 1 ? "stands" : "stand"}, ` +
+    `${undone} ${undone === 1 ? "was" : "were"} undone; in the others a process waited or was idle.`;
 }
 
 function sentence(t) {

@@ -1,0 +1,58 @@
+#!/usr/bin/env node
+/* Tests how much time the page's thread takes of a processor, in Chromium: to open a run, for a frame of scrolling, and for a step. The clock says
+   little on a machine that has other work.
+
+     node view/test_time.js */
+"use strict";
+const path = require("path");
+const { MARKET } = require("./long_runs.js"), { crowd } = require("./programs.js");
+const { OUT, sure, wait, pageOf, inBrowser } = require("./driving.js");
+
+// The runs, and the most that each may take, in milliseconds of a processor: a lane for each of 32 processes takes more than two.
+const pages = () => [
+  ["10,000 turns", pageOf("market.10000", MARKET, "all 5000\n").page, { open: 400, scroll: 8, step: 25 }],
+  ["100,000 turns", pageOf("market.100000", MARKET, "all 50000\n").page, { open: 1000, scroll: 8, step: 25 }],
+  ["32 processes, 22,400 turns", pageOf("crowd.long", crowd(32), "all 700\n").page, { open: 1000, scroll: 16, step: 60 }],
+];
+const shot = (browser, name) => browser.picture(path.join(OUT, `${name}.png`));
+
+// What the page's thread takes of a processor.
+async function taken(browser) {
+  const { metrics } = await browser.send("Performance.getMetrics");
+  return 1000 * metrics.find(metric => metric.name === "TaskDuration").value;
+}
+
+async function frames(browser, count, act) {
+  const before = await taken(browser);
+  await browser.ask(`new Promise(done => {
+    const box = document.getElementById("picture");
+    let k = 0;
+    (function frame() { if (k++ >= ${count}) return done(); ${act}; requestAnimationFrame(frame); })();
+  })`);
+  return (await taken(browser) - before) / count;
+}
+
+async function testTime(browser) {
+  await browser.send("Performance.enable", { timeDomain: "threadTicks" });
+  for (const [name, page, limits] of pages()) {
+    const opens = [], steps = [], scrolls = [];
+    for (let k = 0; k < 3; k++) {
+      await browser.open("/dev/null");
+      const before = await taken(browser);
+      await browser.open(page, 1440, 900, "#theme=light&turn=5000");
+      await wait(300);
+      opens.push(await taken(browser) - before);
+      scrolls.push(await frames(browser, 40, "box.scrollLeft += 60"));
+      steps.push(await frames(browser, 40, "document.getElementById('on').click()"));
+    }
+    const [open, scroll, step] = [opens, scrolls, steps].map(times => Math.min(...times));
+    console.log(`${name}: opens in ${open.toFixed(0)} ms, a frame of scrolling takes ${scroll.toFixed(1)} ms, a step ${step.toFixed(1)} ms of a processor`);
+    sure(`${name}: open`, open < limits.open, opens);
+    sure(`${name}: scroll`, scroll < limits.scroll, scrolls);
+    sure(`${name}: step`, step < limits.step, steps);
+    await browser.ask("document.getElementById('fit').click()");
+    await shot(browser, `long.${name.replace(/\W+/g, ".")}`);
+  }
+}
+
+inBrowser([testTime]);
