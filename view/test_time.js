@@ -55,10 +55,9 @@ async function slownessNow(browser) {
 async function testTime(browser) {
   await browser.send("Performance.enable", { timeDomain: "threadTicks" });
   for (const [name, page, limits] of pages()) {
-    const slow = await slownessNow(browser);
-    const opens = [], steps = [], scrolls = [];
+    const opens = [], steps = [], scrolls = [], slows = [];
     for (let k = 0; k < 3; k++) {
-      await browser.open("/dev/null");
+      slows.push(await slownessNow(browser));
       const before = await taken(browser);
       await browser.open(page, 1440, 900, "#theme=light&turn=5000");
       await wait(300);
@@ -66,9 +65,9 @@ async function testTime(browser) {
       scrolls.push(await frames(browser, 40, "box.scrollLeft += 60"));
       steps.push(await frames(browser, 40, "document.getElementById('on').click()"));
     }
-    const [open, scroll, step] = [opens, scrolls, steps].map(times => Math.min(...times));
-    console.log(`${name}: opens in ${open.toFixed(0)} ms, a frame of scrolling takes ${scroll.toFixed(1)} ms, a step ${step.toFixed(1)} ms ` +
-      `of a processor, which is ${slow.toFixed(2)} times as slow as it can be`);
+    const [open, scroll, step, slow] = [opens, scrolls, steps, slows].map(times => Math.min(...times));
+    const told = [open.toFixed(0), scroll.toFixed(1), step.toFixed(1), slow.toFixed(2)];
+    console.log(`${name}: to open, a frame of scrolling, a step: ${told.slice(0, 3).join(", ")} ms of a processor that is ${told[3]} times as slow as it can be`);
     sure(`${name}: open`, open < limits.open * slow, opens);
     sure(`${name}: scroll`, scroll < limits.scroll * slow, scrolls);
     sure(`${name}: step`, step < limits.step * slow, steps);

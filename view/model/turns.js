@@ -52,7 +52,8 @@ const TURN = {
   },
   levels(run, turn, scan) { const now = levelsIn(run, processIn(run, scan)); now.length = Math.min(now.length, scan.number()); },
   level(run, turn, scan) {
-    const process = processIn(run, scan), k = scan.number() - 1, block = scan.named(), alternate = scan.named(), used = scan.named(), entered = scan.named();
+    const process = processIn(run, scan), k = scan.number() - 1;
+    const block = scan.named(), alternate = scan.named(), used = scan.named(), entered = scan.named();
     if (process.used[k] === undefined) process.used[k] = new History(0);
     process.used[k].set(turn.number, used);
     const before = (process.nextLevels || process.levels.last())[k];
