@@ -22,13 +22,12 @@ function survivors(run, t) {
   return found;
 }
 
-// The lines of `rbl survive` at t.
-function record(run, t) {
-  return survivors(run, t).map(u => {
-    const turn = run.turns[u];
-    return `${u} ${run.processes[turn.process].name}` + (turn.what[0] === "start" ? ` ${turn.what[2]}` : "");
-  });
+// The line of `rbl survive` for a turn that stands, and all of them at t.
+function recordOf(run, u) {
+  const { process, what } = run.turns[u];
+  return `${u} ${run.processes[process].name}` + (what[0] === "start" ? ` ${what[2]}` : "");
 }
+const record = (run, t) => survivors(run, t).map(u => recordOf(run, u));
 
 // The lines that `rbl run` has written at t, but for its ending: the last `most` of them.
 function printed(run, t, most = Infinity) {

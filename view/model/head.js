@@ -2,7 +2,7 @@
 function emptyRun() {
   return {
     edition: 1, processes: [], channels: [], conversations: [], blocks: [], count: 0, turns: [], ending: [],
-    numberOf: { process: new Map(), channel: new Map(), conversation: new Map() }, places: new Map(), wants: new Map(),
+    numberOf: { process: new Map(), channel: new Map(), conversation: new Map() }, places: new Map(), wants: new Map(), changing: [], recent: null,
     undoneIn: [], spans: [], sessions: [], returns: [], messages: [], receipts: [], held: [], outs: [], tellingTurns: [], lastBusy: 0,
   };
 }
@@ -15,8 +15,8 @@ const HEAD = {
     const name = scan.word(), number = run.processes.length;
     run.numberOf.process.set(name, number);
     run.processes.push({
-      name, number, variables: [], turns: [], depth: 0, spans: [],
-      levels: new History([]), held: new History([]), state: new History({ is: "runs", cause: "" }),
+      name, number, variables: [], turns: [], depth: 0, spans: [], nextLevels: null,
+      levels: new History([]), used: [], held: new History([]), state: new History({ is: "runs", cause: "" }),
       doneIn: undefined, failedIn: undefined,
     });
   },
@@ -51,4 +51,8 @@ const HEAD = {
   turns(run, scan) { run.count = scan.number(); },
 };
 
-const processIn = (run, scan) => run.processes[run.numberOf.process.get(scan.word())];
+// The process whose name is next: most often that of the line before.
+function processIn(run, scan) {
+  if (run.recent !== null && scan.takes(run.recent.name)) return run.recent;
+  return run.recent = run.processes[run.numberOf.process.get(scan.word())];
+}

@@ -7,7 +7,11 @@ function finish(run, turn) {
   if (turn.process >= 0) run.processes[turn.process].turns.push(turn.number);
   if (turn.kind !== "idle") run.lastBusy = turn.number;
   for (const back of turn.backs) goBack(run, turn, back);
-  if (turn.levels !== null) for (const [process, levels] of turn.levels) changeLevels(run, turn, run.processes[process], levels);
+  for (const process of run.changing) {
+    changeLevels(run, turn, process, process.nextLevels);
+    process.nextLevels = null;
+  }
+  run.changing.length = 0;
 }
 
 function noteSaid(run, turn) {

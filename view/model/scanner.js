@@ -18,6 +18,13 @@ class Scanner {
     const from = this.at, to = this.skip();
     return this.text.slice(from, to);
   }
+  // Whether the next word is this one, which then is taken.
+  takes(word) {
+    const end = this.at + word.length, code = this.text.charCodeAt(end);
+    if ((code !== BLANK && code !== LF) || !this.text.startsWith(word, this.at)) return false;
+    this.at = code === BLANK ? end + 1 : end;
+    return true;
+  }
   // A number without a sign; a word that is none is skipped, and NaN.
   number() {
     const { text } = this;

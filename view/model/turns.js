@@ -5,7 +5,7 @@ const NONE = Object.freeze([]);
 
 function newTurn(number) {
   return {
-    number, process: -1, place: null, kind: "opening", what: NONE, said: NONE, backs: NONE, changes: NONE, levels: null,
+    number, process: -1, place: null, kind: "opening", what: NONE, said: NONE, backs: NONE, changes: NONE,
     line: null, message: null, receipt: null,
   };
 }
@@ -25,6 +25,9 @@ function placeOf(run, word) {
   return place;
 }
 
+// The kinds of turns, each kept once.
+const KINDS = new Map(["idle", "waits", "took", "undone"].map(kind => [kind, kind]));
+
 // What a turn did or wanted, as words: a few, that come again and again.
 function wordsIn(run, text) {
   let words = run.wants.get(text);
@@ -36,7 +39,7 @@ const TURN = {
   turn(run, turn, scan) {
     turn.process = processIn(run, scan).number;
     turn.place = placeOf(run, scan.word());
-    turn.kind = scan.word();
+    turn.kind = KINDS.get(scan.word());
     turn.what = wordsIn(run, scan.rest());
   },
   back(run, turn, scan) { addTo(turn, "backs", { process: processIn(run, scan).number, to: scan.named() }); },
@@ -47,10 +50,15 @@ const TURN = {
     values.set(turn.number, now);
     addTo(turn, "changes", { process: process.number, variable, index, before, now });
   },
-  levels(run, turn, scan) { const now = levelsIn(turn, processIn(run, scan)); now.length = Math.min(now.length, scan.number()); },
+  levels(run, turn, scan) { const now = levelsIn(run, processIn(run, scan)); now.length = Math.min(now.length, scan.number()); },
   level(run, turn, scan) {
-    const now = levelsIn(turn, processIn(run, scan)), k = scan.number() - 1;
-    now[k] = { block: scan.named(), alternate: scan.named(), used: scan.named(), entered: scan.named() };
+    const process = processIn(run, scan), k = scan.number() - 1;
+    const block = scan.named(), alternate = scan.named(), used = scan.named(), entered = scan.named();
+    if (process.used[k] === undefined) process.used[k] = new History(0);
+    process.used[k].set(turn.number, used);
+    const before = (process.nextLevels || process.levels.last())[k];
+    if (before !== undefined && before.block === block && before.alternate === alternate && before.entered === entered) return;
+    levelsIn(run, process)[k] = { block, alternate, entered };
   },
   held(run, turn, scan) {
     const process = processIn(run, scan), count = scan.number(), lines = process.held.last().slice();
@@ -91,10 +99,13 @@ const TURN = {
   },
 };
 
-function levelsIn(turn, process) {
-  if (turn.levels === null) turn.levels = new Map();
-  if (!turn.levels.has(process.number)) turn.levels.set(process.number, process.levels.last().slice());
-  return turn.levels.get(process.number);
+// The levels of a process behind the turn that is read.
+function levelsIn(run, process) {
+  if (process.nextLevels === null) {
+    process.nextLevels = process.levels.last().slice();
+    run.changing.push(process);
+  }
+  return process.nextLevels;
 }
 
 function endHeld(held, turn) {

@@ -5,8 +5,8 @@ const MOST_LINES = 200, MOST_WORDS = 2000;
 function linesSoFar(most) {
   const t = state.turn > LAST ? run.count : state.turn;
   if (state.survivors) {
-    const lines = Model.record(run, t).map(line => ({ turn: +line.split(" ")[0], line })), before = Math.max(0, lines.length - most);
-    return { before, lines: lines.slice(before) };
+    const turns = survivorsAt(run, Math.min(t, LAST)), before = Math.max(0, turns.length - most);
+    return { before, lines: turns.slice(before).map(turn => ({ turn, line: Model.recordOf(run, turn) })) };
   }
   const printed = Model.printed(run, t, most), before = Model.countPrinted(run, t) - printed.length;
   const lines = state.turn >= run.end ? printed.concat(run.ending.map(line => ({ turn: -1, line }))) : printed;

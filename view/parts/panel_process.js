@@ -30,7 +30,7 @@ function putBack(process, level, t) {
 }
 
 function recoveryPoint(process, level, k, t) {
-  const block = run.blocks[level.block], found = putBack(process, level, t), { entered, alternate, used } = level;
+  const block = run.blocks[level.block], found = putBack(process, level, t), { entered, alternate } = level, used = process.used[k].at(t);
   const of = block.conversation >= 0 ? `${run.conversations[block.conversation].name} (line ${block.line})` : `block on line ${block.line}`;
   const share = `width:${Math.min(100, 100 * used / block.bound)}%`, meter = `<i style="${share}"></i>`;
   const turns = `<span class="meter" role="img" aria-label="${used} of ${block.bound} turns used">${meter}</span> ${used} of ${block.bound} turns`;
