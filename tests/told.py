@@ -2,14 +2,16 @@
 
     python3 -m tests.told
 
-writes what is told of each anew, to examples/reasons, a file for each case. The texts of the faults are those of `rblview explain`.
+writes what is told of each anew, to examples/reasons, a file for each case, and to examples/explained what `rblview explain` tells of each
+fault and each cause. The texts of the faults are those of `rblview explain`.
 """
 import os
 
 from .explained import explained, faults_and_causes, files_of, words_over
-from .shared import ROOT, answer_over, write
+from .shared import MOST, ROOT, answer, answer_over, write
 
 WANTED = os.path.join(ROOT, "examples/reasons")
+EXPLAINED = os.path.join(ROOT, "examples/explained")
 SMALL = b"program a;\nprocess p { }\nprocess q { }\nend.\n"
 NESTED = b"""program a; conversation C (p, q); conversation D (p, q);
 process p { converse D ensure 1 within 9 by { } else error; converse C ensure 1 within 9 by { } else error; }
@@ -79,6 +81,7 @@ CASES = {
     "session_without_process": (["session", "source", "schedule", "session"],
                                 {"source": SMALL, "schedule": b"p 2\n", "session": b"step 1\nshow r\n"}),
     "image_that_is_none": (["load", "image", "schedule"], {"image": b"no image", "schedule": b"p 1\n"}),
+    "schedule_that_is_too_long": (["run", "source", "schedule"], {"source": SMALL, "schedule": b" " * (MOST + 1)}),
     "file_that_is_missing": (["check", "missing"], {}),
     "nothing_refused": (["check", "source"], {"source": SMALL}),
 }
@@ -103,6 +106,24 @@ def place(name):
     return os.path.join(WANTED, f"{name}.stderr")
 
 
+def words_of_all():
+    """The words of which `rblview explain` tells."""
+    faults, causes = faults_and_causes()
+    return faults + causes
+
+
+def explanation(word):
+    """What `rblview explain` tells of a fault or a cause."""
+    return answer(["explain", word]).out
+
+
+def explained_place(word):
+    """Where it stands what `rblview explain` is wanted to tell."""
+    return os.path.join(EXPLAINED, f"{word}.txt")
+
+
 if __name__ == "__main__":
+    for word in words_of_all():
+        write(explained_place(word), explanation(word))
     for name, words, files in cases():
         write(place(name), told(words, files))
