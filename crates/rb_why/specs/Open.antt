@@ -1,5 +1,5 @@
 -- What is still open, and what stands last, seen from the tokens before a place.
-use Rattle.std.specs.Prelude.{ℕ, ◌+◌, ◌-◌, nat_eq, cond, List, [], ◌∷◌, ◌++◌, length, take, codes, Option, Some, None, slice_get}
+use Rattle.std.specs.Prelude.{ℕ, ◌-◌, nat_eq, cond, List, [], ◌∷◌, ◌++◌, length, take, codes, Option, Some, None, slice_get}
 use Rattle.std.specs.Cmp.Lexicographic.{pointwise}
 use Rattle.rb_base.specs.declared.place.Place.{Place}
 use Rattle.rb_lex.specs.Tokens.{Lexeme}
@@ -24,7 +24,3 @@ innermost_open tokens = last_of (open_behind [] tokens)
 abbrev pub text_of : Option Lexeme → List ℕ
 text_of None = []
 text_of (Some token) = token.text
-
--- the place right behind a token
-abbrev pub behind : Lexeme → Place
-behind token = record { line = token.place.line; column = token.place.column + length token.text }

@@ -12,7 +12,7 @@ use Rattle.rb_lex.specs.Tokens.{Lexeme}
 use Rattle.rb_why.specs.Bytes.{from_place}
 use Rattle.rb_why.specs.Habits.{habit_words}
 use Rattle.rb_why.specs.Likeness.{is_nil}
-use Rattle.rb_why.specs.Open.{behind, innermost_open, last_of, text_of}
+use Rattle.rb_why.specs.Open.{innermost_open, last_of, text_of}
 use Rattle.rb_why.specs.Tokens.{text_at}
 
 -- the faults that come of what is written in other languages: about a byte, a token and a name
@@ -47,15 +47,15 @@ open_told source fault tokens =
     cond (is_nil (from_place source fault.place) || is_one_of outer_words (text_at fault.place (tokens_of source)))
     (note_of source (innermost_open tokens) (codes "this `{` is still open")) []
 
--- the place behind the last token, where it stands on a line before
+-- the place of the last token, where it stands on a line before
 abbrev pub line_end : Place → Option Lexeme → Option Place
 line_end place None = None
-line_end place (Some token) = cond (nat_lt token.place.line place.line) (Some (behind token)) None
+line_end place (Some token) = cond (nat_lt token.place.line place.line) (Some token.place) None
 
 -- a `;` that may be missing at the end of a line before
 abbrev pub missing_told : List ℕ → Place → Option Lexeme → List (List ℕ) → List ℕ
 missing_told source place last may =
-    cond (is_one_of may (codes ";")) (note_of source (line_end place last) (codes "a `;` may be missing here")) []
+    cond (is_one_of may (codes ";")) (note_of source (line_end place last) (codes "a `;` may be missing behind this")) []
 
 -- what the tokens before a place tell of a token that can't stand there
 abbrev pub stray_remarks : List ℕ → SourceFault → List Lexeme → List (List ℕ) → List ℕ
