@@ -77,12 +77,7 @@ pub fn help(alloc: Global, words: &[u8]) -> Result<Vec<u8>, Memory>
 }
 
 /// A remark about another place of the text, with its line and a mark.
-pub fn note(
-    alloc: Global,
-    text: &[u8],
-    place: Place,
-    words: &[u8],
-) -> Result<Vec<u8>, Memory>
+pub fn note(alloc: Global, text: &[u8], place: Place, words: &[u8]) -> Result<Vec<u8>, Memory>
     ensures { IfOk result (λ told. told.items ≡ noted text.now place words.now) }
 {
     let pointed = shown_at(alloc, text, place)?;

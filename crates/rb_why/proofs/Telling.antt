@@ -1,5 +1,5 @@
 -- Which tokens are told, one after another.
-use Rattle.std.proofs.Common.{◌++◌, Bor, map, take, drop, get_or, ◌-◌, ◌≤◌, ◌<◌, arith, ◌≡◌, ◌↔◌, inl, inr, ℕ, Bool, true, false, nat_eq, nat_lt, cond, List, [], ◌∷◌, length, codes, IsTrue, refl, sym, ◌∙◌, subst, ap}
+use Rattle.std.proofs.Common.{◌++◌, Bor, map, take, drop, get_or, ◌-◌, ◌≤◌, ◌<◌, arith, ◌≡◌, ◌↔◌, inl, inr, ℕ, Bool, true, nat_eq, List, [], ◌∷◌, length, codes, IsTrue, refl, sym, ◌∙◌, subst, ap}
 use Rattle.std.specs.Cmp.Lexicographic.{pointwise}
 use Rattle.std.proofs.Math.Seq.{take-length}
 use Rattle.rb_why.specs.Expected.{GoesOn, IsOther, IsTold, MayStand, Tells, TellsTried, tried}

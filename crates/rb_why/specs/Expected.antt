@@ -16,9 +16,9 @@ use Rattle.rb_why.specs.declared.expected.TheConstants.{MOST_TOLD}
 -- completes what stands before, then what begins something, and what goes on with it last
 abbrev pub tried : List (List ℕ)
 tried = codes ";" ∷ codes ")" ∷ codes "]" ∷ codes ":=" ∷ codes "{" ∷ codes "}" ∷ codes "." ∷ codes ":" ∷ codes "by" ∷ codes "within"
-    ∷ codes "ensure" ∷ codes "error" ∷ codes "from" ∷ codes "to" ∷ codes "size" ∷ codes "(" ∷ codes "x" ∷ codes "1" ∷ codes "2"
+    ∷ codes "error" ∷ codes "from" ∷ codes "to" ∷ codes "size" ∷ codes "(" ∷ codes "x" ∷ codes "1" ∷ codes "2"
     ∷ codes "\"t\"" ∷ codes "," ∷ codes "program" ∷ codes "process" ∷ codes "end" ∷ codes "edition" ∷ codes "print" ∷ codes "if"
-    ∷ codes "while" ∷ codes "call" ∷ codes "var" ∷ codes "send" ∷ codes "receive" ∷ codes "converse" ∷ codes "fail" ∷ codes "else"
+    ∷ codes "while" ∷ codes "ensure" ∷ codes "call" ∷ codes "var" ∷ codes "send" ∷ codes "receive" ∷ codes "converse" ∷ codes "fail" ∷ codes "else"
     ∷ codes "procedure" ∷ codes "channel" ∷ codes "conversation" ∷ codes "[" ∷ codes "+" ∷ codes "-" ∷ codes "*" ∷ codes "/" ∷ codes "%"
     ∷ codes "=" ∷ codes "<>" ∷ codes "<" ∷ codes "<=" ∷ codes ">" ∷ codes ">=" ∷ codes "and" ∷ codes "or" ∷ codes "not" ∷ codes "prior"
     ∷ codes "every" ∷ codes "some" ∷ codes "sum" ∷ codes "all" ∷ []

@@ -1,5 +1,6 @@
 -- What is written here in place of what other languages write.
-use Rattle.std.specs.Prelude.{ℕ, nat_eq, Bool, ◌&&◌, ◌||◌, cond, List, [], ◌∷◌, ◌++◌, codes, Option, option_map}
+use Rattle.std.specs.Prelude.{ℕ, nat_eq, Bool, ◌&&◌, ◌||◌, cond, List, [], ◌∷◌, codes, Option, option_map}
+use Rattle.std.specs.Option.{option_or}
 use Rattle.std.specs.List.{find, starts_with}
 use Rattle.std.specs.Cmp.Lexicographic.{pointwise}
 use Rattle.rb_base.specs.Bytes.{is_name}
@@ -81,6 +82,11 @@ fits before may token bytes row =
     (is_nil row.before || pointwise nat_eq row.before before)
     && ((is_nil row.wanted || is_one_of may row.wanted) && stands_here token bytes row.here)
 
+-- what the first of these says that fits
+abbrev pub first_that_fits : (Row → Bool) → List Row → Option (List ℕ)
+first_that_fits does_fit rows = option_map (λ row. row.words) (find does_fit rows)
+
 -- what the first habit that fits says
 abbrev pub habit_words : List ℕ → List (List ℕ) → List ℕ → List ℕ → Option (List ℕ)
-habit_words before may token bytes = option_map (λ row. row.words) (find (fits before may token bytes) (of_marks ++ of_words))
+habit_words before may token bytes =
+    option_or (first_that_fits (fits before may token bytes) of_marks) (first_that_fits (fits before may token bytes) of_words)

@@ -1,5 +1,5 @@
 -- What is told beside the sentence about a fault of a source.
-use Rattle.std.specs.Prelude.{ℕ, nat_lt, Bool, true, false, ◌&&◌, ◌||◌, cond, List, [], ◌∷◌, ◌++◌, codes, Option, Some, None}
+use Rattle.std.specs.Prelude.{ℕ, nat_lt, Bool, true, false, ◌||◌, cond, List, [], ◌∷◌, ◌++◌, codes, Option, Some, None}
 use Rattle.rb_base.specs.Reserved.{is_one_of}
 use Rattle.rb_base.specs.declared.fault.FaultName.{FaultName}
 use Rattle.rb_base.specs.declared.fault.FaultName.TheVariants.{X1, Y1, S1}
@@ -41,11 +41,14 @@ abbrev pub note_of : List ℕ → Option Place → List ℕ → List ℕ
 note_of source None words = []
 note_of source (Some place) words = noted source place words
 
--- a `{` that is still open where the source ends, or where what stands outside of all processes begins
+-- whether a process should have ended at a place: the source does, or what stands outside of all processes begins
+abbrev pub ends_all : List ℕ → Place → Bool
+ends_all source place = is_nil (from_place source place) || is_one_of outer_words (text_at place (tokens_of source))
+
+-- a `{` that is still open where a process should have ended
 abbrev pub open_told : List ℕ → SourceFault → List Lexeme → List ℕ
 open_told source fault tokens =
-    cond (is_nil (from_place source fault.place) || is_one_of outer_words (text_at fault.place (tokens_of source)))
-    (note_of source (innermost_open tokens) (codes "this `{` is still open")) []
+    cond (ends_all source fault.place) (note_of source (innermost_open tokens) (codes "this `{` is still open")) []
 
 -- the place of the last token, where it stands on a line before
 abbrev pub line_end : Place → Option Lexeme → Option Place

@@ -1,5 +1,5 @@
 -- Why a source is refused, in words.
-use Rattle.std.specs.Prelude.{◌≡◌, ℕ, nat_le, Bool, true, false, not, ◌&&◌, cond, List, [], ◌∷◌, ◌++◌, length, codes}
+use Rattle.std.specs.Prelude.{◌≡◌, ℕ, nat_le, Bool, not, ◌&&◌, cond, List, [], ◌∷◌, ◌++◌, length, codes}
 use Rattle.rb_base.specs.Words.{fault_word}
 use Rattle.rb_base.specs.declared.fault.FaultName.{FaultName}
 use Rattle.rb_base.specs.declared.fault.FaultName.TheVariants.{X1, X2, Y1, N3, N4}

@@ -1,8 +1,9 @@
 //! What may stand at a place of a source in place of what stands there: each token is tried by the parser itself.
 
-ghost use Rattle.std.specs.Prelude.{◌≡◌, ◌↔◌, ◌≤◌, ◌++◌, ◌&&◌, nat_eq, not, [], codes, length, map, IfOk, IsTrue};
+ghost use Rattle.std.specs.Prelude.{◌≡◌, ◌↔◌, ◌≤◌, ◌++◌, ◌&&◌, nat_eq, not, [], codes, length, map, take, IfOk, IsTrue};
 ghost use Rattle.rb_why.specs.Expected.{GoesOn, IsOther, IsRefusedBehind, IsTold, MayStand, Tells, TellsTried, front_behind, is_name_there, is_own, label, labels, others, told_first, tried, trial};
 ghost use Rattle.std.specs.Cmp.Lexicographic.{pointwise};
+ghost use Rattle.rb_why.specs.declared.expected.TheConstants.{MOST_TOLD};
 ghost use Rattle.rb_why.specs.Source.{is_tried, stray_told, stray_words, with_expected};
 
 use crate::likeness::reads_like_schedule;
@@ -66,24 +67,41 @@ fn stray_words(alloc: Global, token: &[u8]) -> Result<Vec<u8>, Memory>
 }
 
 // With what may stand there, if anything may.
+#[tactic(auto, using(crate::proofs::Listing::with_some, crate::proofs::Listing::with_none))]
 fn with_expected(alloc: Global, words: &[u8], may: &[&'static [u8]]) -> Result<Vec<u8>, Memory>
     ensures { IfOk result (λ told. told.items ≡ with_expected words.now (map (λ token. token.now) may.now)) }
 {
-    if may.is_empty() {
-        return around(alloc, words, b": the program has ended", b"");
+    if let [_, ..] = may {
+        let first = told_first(alloc, may)?;
+        let told = around(alloc, words, b"; expected ", first.as_slice())?;
+        Ok(told)
+    } else {
+        let told = around(alloc, words, b": the program has ended", b"")?;
+        Ok(told)
     }
-    let first = told_first(alloc, may)?;
-    around(alloc, words, b"; expected ", first.as_slice())
 }
 
 // The first tokens of a list as they are told, and how many others there are.
+#[tactic(auto, using(crate::proofs::Listing::first_and_others))]
 fn told_first(alloc: Global, tokens: &[&'static [u8]]) -> Result<Vec<u8>, Memory>
     ensures { IfOk result (λ words. words.items ≡ told_first (map (λ token. token.now) tokens.now)) }
 {
-    let named = tokens.len().min(MOST_TOLD);
-    let labels = labels(alloc, &tokens[..named])?;
-    let others = others(alloc, tokens.len() - named)?;
-    joined(alloc, &[labels.as_slice(), others.as_slice()])
+    let labels = labels(alloc, first_tokens(tokens))?;
+    let others = others(alloc, tokens.len().saturating_sub(MOST_TOLD))?;
+    let told = around(alloc, labels.as_slice(), others.as_slice(), b"")?;
+    Ok(told)
+}
+
+// The tokens that are named of a list.
+#[tactic(auto, using(crate::proofs::Listing::cut_short))]
+fn first_tokens<'t>(tokens: &'t [&'static [u8]]) -> &'t [&'static [u8]]
+    ensures { map (λ token. token.now) result.now ≡ take MOST_TOLD (map (λ token. token.now) tokens.now) }
+{
+    if tokens.len() > MOST_TOLD {
+        &tokens[..MOST_TOLD]
+    } else {
+        tokens
+    }
 }
 
 // Tokens as they are told.
@@ -152,7 +170,7 @@ fn with_tried(
     told: Vec<&'static [u8]>,
     token: &'static [u8],
 ) -> Result<Vec<&'static [u8]>, Memory>
-    ensures { IfOk result (λ next. GoesOn before.now line token.now (map (λ t. t.now) told.items) (map (λ t. t.now) next.items)) }
+    ensures { IfOk result (λ next. GoesOn before.now line token.now (map (λ t. t.now) told.entry.items) (map (λ t. t.now) next.items)) }
 {
     let mut next = told;
     if is_told(alloc, before, line, token)? {
@@ -290,7 +308,6 @@ fn tried() -> &'static [&'static [u8]]
         b":",
         b"by",
         b"within",
-        b"ensure",
         b"error",
         b"from",
         b"to",
@@ -308,6 +325,7 @@ fn tried() -> &'static [&'static [u8]]
         b"print",
         b"if",
         b"while",
+        b"ensure",
         b"call",
         b"var",
         b"send",

@@ -1,8 +1,7 @@
 //! What is written here in place of what other languages write.
 
-ghost use Rattle.std.specs.Prelude.{◌≡◌, List, ℕ, map, option_map};
-ghost use Rattle.std.specs.List.{find};
-ghost use Rattle.rb_why.specs.Habits.{fits, habit_words, of_marks, of_words, row_of, stands_here};
+ghost use Rattle.std.specs.Prelude.{◌≡◌, map, option_map};
+ghost use Rattle.rb_why.specs.Habits.{first_that_fits, fits, habit_words, of_marks, of_words, row_of, stands_here};
 
 use crate::listed::is_among;
 use rb_base::bytes::is_name;
@@ -26,17 +25,22 @@ pub(crate) struct Spot<'a> {
 }
 
 /// What the first habit that fits says.
+#[tactic(auto, using(crate::proofs::Habitual::in_first, crate::proofs::Habitual::in_second))]
 pub(crate) fn habit_words(spot: Spot<'_>) -> Option<&'static [u8]>
     ensures { option_map (λ words. words.now) result ≡
-        habit_words spot.before.now (map (λ token. token.now) spot.may.now) spot.token.now spot.bytes.now }
+        habit_words spot.entry.before.now (map (λ token. token.now) spot.entry.may.now) spot.entry.token.now spot.entry.bytes.now }
 {
-    first_that_fits(of_marks(), spot).or(first_that_fits(of_words(), spot))
+    match first_that_fits(of_marks(), spot) {
+        Some(words) => Some(words),
+        None => first_that_fits(of_words(), spot),
+    }
 }
 
 // What the first of these says that fits.
 fn first_that_fits(habits: &'static [Habit], spot: Spot<'_>) -> Option<&'static [u8]>
-    ensures { option_map (λ words. words.now) result ≡ option_map (λ row. row.words)
-        (find (fits spot.before.now (map (λ token. token.now) spot.may.now) spot.token.now spot.bytes.now) (map row_of habits.now)) }
+    ensures { option_map (λ words. words.now) result ≡
+        first_that_fits (fits spot.entry.before.now (map (λ token. token.now) spot.entry.may.now) spot.entry.token.now spot.entry.bytes.now)
+        (map row_of habits.now) }
 {
     let mut rest = habits;
     while let [habit, after @ ..] = rest {
@@ -49,7 +53,7 @@ fn first_that_fits(habits: &'static [Habit], spot: Spot<'_>) -> Option<&'static 
 }
 
 fn fits(habit: Habit, spot: Spot<'_>) -> bool
-    ensures { result ≡ fits spot.before.now (map (λ token. token.now) spot.may.now) spot.token.now spot.bytes.now (row_of habit) }
+    ensures { result ≡ fits spot.entry.before.now (map (λ token. token.now) spot.entry.may.now) spot.entry.token.now spot.entry.bytes.now (row_of habit) }
 {
     (habit.before.is_empty() || habit.before == spot.before)
         && (habit.wanted.is_empty() || is_among(spot.may, habit.wanted))

@@ -34,7 +34,14 @@ pub(crate) fn quoted(alloc: Global, word: &[u8]) -> Result<Vec<u8>, Memory>
 pub(crate) fn is_among(words: &[&'static [u8]], word: &[u8]) -> bool
     ensures { result ≡ is_one_of (map (λ w. w.now) words.now) word.now }
 {
-    words.iter().any(|other| *other == word)
+    let mut rest = words;
+    while let [other, after @ ..] = rest {
+        if *other == word {
+            return true;
+        }
+        rest = after;
+    }
+    false
 }
 
 /// The processes of a program, in the order of declaration.

@@ -48,7 +48,7 @@ pub(crate) fn last_token<'a>(tokens: &[Token<'a>]) -> Option<Token<'a>>
 
 /// The text of a token; nothing where there is none.
 pub(crate) fn text_of<'a>(token: Option<Token<'a>>) -> &'a [u8]
-    ensures { result.now ≡ text_of (option_map lexeme_of token) }
+    ensures { result.now ≡ text_of (option_map lexeme_of token.entry) }
 {
     match token {
         Some(token) => token.text,

@@ -2,7 +2,7 @@
 
 ghost use Rattle.std.specs.Prelude.{◌≡◌, ◌≤◌, [], cond, length, map, option_map, IfOk};
 ghost use Rattle.rb_lex.specs.Reader.{lexeme_of};
-ghost use Rattle.rb_why.specs.Remarks.{has_habits, help_of, is_about_token, line_end, missing_told, note_of, open_told, outer_words, remarks, remarks_behind, stray_remarks};
+ghost use Rattle.rb_why.specs.Remarks.{ends_all, has_habits, help_of, is_about_token, line_end, missing_told, note_of, open_told, outer_words, remarks, remarks_behind, stray_remarks};
 
 use crate::bytes::from_place;
 use crate::habits::{Spot, habit_words};
@@ -76,7 +76,7 @@ fn if_stray(
     joined(alloc, &[open.as_slice(), missing.as_slice()])
 }
 
-// A `{` that is still open where the source ends, or where what stands outside of all processes begins.
+// A `{` that is still open where a process should have ended.
 fn open_told(
     alloc: Global,
     source: &[u8],
@@ -86,14 +86,19 @@ fn open_told(
     requires { length source.now ≤ MOST_BYTES }
     ensures { IfOk result (λ told. told.items ≡ open_told source.now fault (map lexeme_of tokens.now)) }
 {
-    if from_place(source, fault.place).is_empty()
-        || is_among(outer_words(), token_text(source, fault.place))
-    {
-        let place = innermost_open(alloc, tokens)?;
-        note_of(alloc, source, place, b"this `{` is still open")
-    } else {
-        Ok(Vec::new(alloc))
+    if !ends_all(source, fault.place) {
+        return Ok(Vec::new(alloc));
     }
+    let place = innermost_open(alloc, tokens)?;
+    note_of(alloc, source, place, b"this `{` is still open")
+}
+
+// Whether a process should have ended at a place: the source does, or what stands outside of all processes begins.
+fn ends_all(source: &[u8], place: Place) -> bool
+    requires { length source.now ≤ MOST_BYTES }
+    ensures { result ≡ ends_all source.now place }
+{
+    from_place(source, place).is_empty() || is_among(outer_words(), token_text(source, place))
 }
 
 // A `;` that may be missing at the end of a line before.
@@ -105,7 +110,7 @@ fn missing_told(
     may: &[&'static [u8]],
 ) -> Result<Vec<u8>, Memory>
     ensures { IfOk result (λ told. told.items ≡
-        missing_told source.now place (option_map lexeme_of last) (map (λ token. token.now) may.now)) }
+        missing_told source.now place (option_map lexeme_of last.entry) (map (λ token. token.now) may.now)) }
 {
     if is_among(may, b";") {
         note_of(
@@ -121,7 +126,7 @@ fn missing_told(
 
 // The place of the last token, where it stands on a line before.
 fn line_end(place: Place, last: Option<Token<'_>>) -> Option<Place>
-    ensures { result ≡ line_end place (option_map lexeme_of last) }
+    ensures { result ≡ line_end place (option_map lexeme_of last.entry) }
 {
     let token = last?;
     if token.place.line < place.line {
@@ -133,7 +138,7 @@ fn line_end(place: Place, last: Option<Token<'_>>) -> Option<Place>
 
 // Help in words, where there are some.
 fn help_of(alloc: Global, words: Option<&'static [u8]>) -> Result<Vec<u8>, Memory>
-    ensures { IfOk result (λ told. told.items ≡ help_of (option_map (λ w. w.now) words)) }
+    ensures { IfOk result (λ told. told.items ≡ help_of (option_map (λ w. w.now) words.entry)) }
 {
     match words {
         Some(words) => help(alloc, words),
