@@ -1,8 +1,19 @@
-"""The examples of every fault and every cause, as `rblview explain` tells them: `rbl` writes of each what the text shows."""
+"""What `rblview explain` tells of every fault and every cause: the text that stands in examples/explained, and with its example `rbl` writes what
+the text shows."""
+import os
 import re
 
-from .explained import explained, faults_and_causes, files_of, words_over
-from .shared import Cases, answer_over
+from .explained import explained, files_of, words_over
+from .shared import Cases, answer_over, read
+from .told import EXPLAINED, explained_place, explanation, words_of_all
+
+
+def other_text(word):
+    """What is wrong with the text of a word beside the one that is stored, or nothing."""
+    if not os.path.exists(explained_place(word)):
+        return f"{explained_place(word)} is missing"
+    real = explanation(word)
+    return None if real == read(explained_place(word)) else f"tells {real!r}"
 
 
 def fault_of(word):
@@ -20,5 +31,13 @@ def fault_of(word):
 
 class Reasons(Cases):
     def test_examples(self):
-        faults, causes = faults_and_causes()
-        self.each([(word, word) for word in faults + causes], fault_of)
+        self.each([(word, word) for word in words_of_all()], fault_of)
+
+    def test_texts(self):
+        """Each text is the one that is stored, so that no sentence of it changes unseen."""
+        self.each([(word, word) for word in words_of_all()], other_text)
+
+    def test_files(self):
+        """Each file is that of a fault or a cause."""
+        names = {os.path.basename(explained_place(word)) for word in words_of_all()}
+        self.each([(file, file) for file in os.listdir(EXPLAINED)], lambda file: None if file in names else "no fault and no cause has this name")

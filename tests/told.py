@@ -2,14 +2,16 @@
 
     python3 -m tests.told
 
-writes what is told of each anew, to examples/reasons, a file for each case. The texts of the faults are those of `rblview explain`.
+writes what is told of each anew, to examples/reasons, a file for each case, and to examples/explained what `rblview explain` tells of each
+fault and each cause. The texts of the faults are those of `rblview explain`.
 """
 import os
 
 from .explained import explained, faults_and_causes, files_of, words_over
-from .shared import ROOT, answer_over, write
+from .shared import MOST, ROOT, answer, answer_over, write
 
 WANTED = os.path.join(ROOT, "examples/reasons")
+EXPLAINED = os.path.join(ROOT, "examples/explained")
 SMALL = b"program a;\nprocess p { }\nprocess q { }\nend.\n"
 NESTED = b"""program a; conversation C (p, q); conversation D (p, q);
 process p { converse D ensure 1 within 9 by { } else error; converse C ensure 1 within 9 by { } else error; }
@@ -27,6 +29,38 @@ PLAYED = b"1 p\n2 p 2\n3 p\n4 p\n5 p\n"
 LONG = b"program a; process p { var x; " + b"x := 1; " * 40 + b"%s" + b"x := 1; " * 40 + b"} end.\n"
 EDITION = b"program a;\nprocess edition { }\nend.\n"
 WAITING = b"program v; channel c from p to q size 1;\nprocess p { send c 1; }\nprocess q { var x; receive c x; } end.\n"
+# What other languages write, each in place of a statement.
+HABITS = {
+    "unequal": b"if x != 1 { x := 2; }", "exclamation": b"if !x { x := 2; }", "ampersands": b"if x && 1 { x := 2; }",
+    "bars": b"if x || 1 { x := 2; }", "single_quotes": b"print 'one';", "typographic_quotes": b"print \xe2\x80\x9cone\xe2\x80\x9d;",
+    "blank_that_breaks_no_line": b"x :=\xc2\xa01;", "slashes": b"// one", "slashes_behind": b"x := 1 // one", "slash_and_star": b"/* one */",
+    "slash_and_star_behind": b"x := 1 /* one */;", "equal_for_becomes": b"x = 1;", "two_equals": b"if x == 1 { x := 2; }", "plusses": b"x++;",
+    "minuses": b"x--;", "plus_and_equal": b"x += 1;", "minus_and_equal": b"x -= 1;", "star_and_equal": b"x *= 2;",
+    "slash_and_equal": b"x /= 2;", "no_call": b"f();", "semicolon_behind_a_block": b"if x { x := 2; };",
+    "else_if": b"if x { x := 2; } else if x = 3 { x := 1; }", "elif": b"if x { x := 2; } elif x = 3 { x := 1; }", "then": b"if x then { x := 2; }",
+    "do": b"while x do { x := 2; }", "begin": b"while x begin x := 2; end", "mod": b"x := x mod 2;", "div": b"x := x div 2;", "true": b"x := true;",
+    "let": b"let y := 1;", "int": b"int y;", "for": b"for i := 1 to 3 { x := i; }", "return": b"return;", "break": b"while 1 { break; }",
+    "every_in_edition_1": b"if every i from 1 to 3 : i { x := 2; }", "sum_in_edition_1": b"print sum i from 1 to 3 : i;",
+}
+# Sources with slips of other kinds, by what is told of them.
+SLIPS = {
+    "semicolon_on_the_line_before": b"process p {\n  var x;\n  x := 1\n  print x;\n}\n",
+    "brace_open_before_a_process": b"process p {\n  var x;\n  while x < 3 {\n    x := x + 1;\n  \n}\nprocess q { }\n",
+    "brace_open_before_the_end": b"process p {\n  var x;\n  x := 1;\n",
+    "tab_in_a_text": b"process p { print \"one\ttwo\"; }\n",
+    "control_byte": b"process p { \x07 }\n",
+    "word_in_large_letters": b"Process p { }\n",
+    "word_misspelled": b"channel c from p to q size 1;\nprocess p { send c 1; }\nprocess q { var x; recieve c x; }\n",
+    "word_too_long": b"process p { var x; ensures x = 1 within 9 by { x := 1; } else error; }\n",
+    "name_misspelled": b"process p {\n  var count;\n  cuont := 1;\n}\n",
+    "name_in_large_letters": b"process p { var x; X := 1; }\n",
+    "name_of_a_parameter": b"process p {\n  procedure twice(number) { print 2 * nunber; }\n  call twice(2);\n}\n",
+    "name_of_two_near": b"process p { var ones; var onex; one := 1; }\n",
+    "name_of_a_left_block": b"process p { if 1 { var inner; inner := 1; } innr := 2; }\n",
+    "array_without_index": b"process p {\n  var row[3];\n  row := 1;\n}\n",
+    "name_of_an_outer_block": b"process p {\n  var x[3];\n  if 1 {\n    var x;\n    x[0] := 1;\n  }\n}\n",
+    "declared_twice": b"process p {\n  var x;\n  var y;\n  var x;\n}\n",
+}
 
 # The cases that no fault stands for: the words, and the files by their names.
 CASES = {
@@ -79,6 +113,7 @@ CASES = {
     "session_without_process": (["session", "source", "schedule", "session"],
                                 {"source": SMALL, "schedule": b"p 2\n", "session": b"step 1\nshow r\n"}),
     "image_that_is_none": (["load", "image", "schedule"], {"image": b"no image", "schedule": b"p 1\n"}),
+    "schedule_that_is_too_long": (["run", "source", "schedule"], {"source": SMALL, "schedule": b" " * (MOST + 1)}),
     "file_that_is_missing": (["check", "missing"], {}),
     "nothing_refused": (["check", "source"], {"source": SMALL}),
 }
@@ -91,6 +126,11 @@ def cases():
         yield fault, words_over(files), files
     for name, (words, files) in CASES.items():
         yield name, words, files
+    for name, statement in HABITS.items():
+        source = b"program a;\nprocess p {\n  var x;\n  procedure f() { }\n  " + statement + b"\n}\nend.\n"
+        yield f"habit_{name}", ["check", "source"], {"source": source}
+    for name, processes in SLIPS.items():
+        yield f"slip_{name}", ["check", "source"], {"source": b"program a;\n" + processes + b"end.\n"}
 
 
 def told(words, files):
@@ -103,6 +143,24 @@ def place(name):
     return os.path.join(WANTED, f"{name}.stderr")
 
 
+def words_of_all():
+    """The words of which `rblview explain` tells."""
+    faults, causes = faults_and_causes()
+    return faults + causes
+
+
+def explanation(word):
+    """What `rblview explain` tells of a fault or a cause."""
+    return answer(["explain", word]).out
+
+
+def explained_place(word):
+    """Where it stands what `rblview explain` is wanted to tell."""
+    return os.path.join(EXPLAINED, f"{word}.txt")
+
+
 if __name__ == "__main__":
+    for word in words_of_all():
+        write(explained_place(word), explanation(word))
     for name, words, files in cases():
         write(place(name), told(words, files))

@@ -66,10 +66,10 @@ def told():
 
 
 def named(pages):
-    """A check of each file: some page names it, or it is a schedule of a source that is named. What `test_reasons_told.py` wants, that one counts."""
+    """A check of each file: some page names it, or it is a schedule of a source that is named. What the tests of reasons want, those count."""
     text = "".join(map(text_of, pages))
     for file in below("*.*"):
-        if file.startswith("examples/reasons/"):
+        if file.startswith(("examples/reasons/", "examples/explained/")):
             continue
         source = re.sub(r"(\.\w+)?\.schedule$", ".rbl", file)
         yield Check(file, None if file in text or (source != file and source in text) else "no page names it")

@@ -69,10 +69,22 @@ unfoldable pub pointed : ℕ → ℕ → List ℕ → List ℕ
 pointed number column line =
     numbered number (window (left_out column line) line) ++ marked number (before_mark (left_out column line) (before_column column line))
 
+-- what is written in place of what stands there
+abbrev pub helped : List ℕ → List ℕ
+helped words = codes "help: " ++ (words ++ codes "\n")
+
+-- a remark about another place of the text, with its line and a mark
+abbrev pub noted : List ℕ → Place → List ℕ → List ℕ
+noted text place words = codes "note: " ++ (words ++ (codes "\n" ++ pointed place.line place.column (shown_line text place.line)))
+
+-- a fault at a place of a text, with remarks
+abbrev pub framed_with : List ℕ → List ℕ → Place → List ℕ → List ℕ → List ℕ → List ℕ
+framed_with file text place name sentence remarks =
+    headed file place name sentence ++ (pointed place.line place.column (shown_line text place.line) ++ (remarks ++ next_step name))
+
 -- a fault at a place of a text
 abbrev pub framed : List ℕ → List ℕ → Place → List ℕ → List ℕ → List ℕ
-framed file text place name sentence =
-    headed file place name sentence ++ (pointed place.line place.column (shown_line text place.line) ++ next_step name)
+framed file text place name sentence = framed_with file text place name sentence []
 
 -- a fault that has no place
 abbrev pub framed_alone : List ℕ → List ℕ → List ℕ → List ℕ

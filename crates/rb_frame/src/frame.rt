@@ -1,7 +1,7 @@
 //! What is written of a fault: where it is and what is wrong, the line with a mark under the place, and where more is told.
 
 ghost use Rattle.std.specs.Prelude.{◌≡◌, ◌++◌, ◌≤◌, length, take, codes, IfOk};
-ghost use Rattle.rb_frame.specs.Frame.{before_column, before_mark, dots, framed, framed_alone, headed, left_out, marked, next_step, numbered, pointed, window};
+ghost use Rattle.rb_frame.specs.Frame.{before_column, before_mark, dots, framed, framed_alone, framed_with, headed, helped, left_out, marked, next_step, noted, numbered, pointed, shown_line, window};
 
 use crate::joined::{joined, shown, under};
 use crate::lines::line_at;
@@ -29,14 +29,72 @@ pub fn frame(
 ) -> Result<Vec<u8>, Memory>
     ensures { IfOk result (λ told. told.items ≡ framed file.now text.now place name.now sentence.now) }
 {
-    let line = without_cr(line_at(text, place.line));
+    frame_with(alloc, file, text, place, name, sentence, b"")
+}
+
+/// The same with remarks before it is told where more is told.
+pub fn frame_with(
+    alloc: Global,
+    file: &[u8],
+    text: &[u8],
+    place: Place,
+    name: &[u8],
+    sentence: &[u8],
+    remarks: &[u8],
+) -> Result<Vec<u8>, Memory>
+    ensures { IfOk result (λ told. told.items ≡ framed_with file.now text.now place name.now sentence.now remarks.now) }
+{
     let head = headed(alloc, file, place, name, sentence)?;
-    let pointed = pointed(alloc, place, line)?;
+    let pointed = shown_at(alloc, text, place)?;
     let next = next_step(alloc, name)?;
-    joined(
+    behind_head(
         alloc,
-        &[head.as_slice(), pointed.as_slice(), next.as_slice()],
+        head.as_slice(),
+        pointed.as_slice(),
+        remarks,
+        next.as_slice(),
     )
+}
+
+// The references of one list have one lifetime.
+fn behind_head<'w>(
+    alloc: Global,
+    head: &'w [u8],
+    pointed: &'w [u8],
+    remarks: &'w [u8],
+    next: &'w [u8],
+) -> Result<Vec<u8>, Memory>
+    ensures { IfOk result (λ told. told.items ≡ head.now ++ (pointed.now ++ (remarks.now ++ next.now))) }
+{
+    joined(alloc, &[head, pointed, remarks, next])
+}
+
+/// What is written in place of what stands there.
+pub fn help(alloc: Global, words: &[u8]) -> Result<Vec<u8>, Memory>
+    ensures { IfOk result (λ told. told.items ≡ helped words.now) }
+{
+    joined(alloc, &[b"help: ", words, b"\n"])
+}
+
+/// A remark about another place of the text, with its line and a mark.
+pub fn note(alloc: Global, text: &[u8], place: Place, words: &[u8]) -> Result<Vec<u8>, Memory>
+    ensures { IfOk result (λ told. told.items ≡ noted text.now place words.now) }
+{
+    let pointed = shown_at(alloc, text, place)?;
+    note_over(alloc, words, pointed.as_slice())
+}
+
+fn note_over<'w>(alloc: Global, words: &'w [u8], pointed: &'w [u8]) -> Result<Vec<u8>, Memory>
+    ensures { IfOk result (λ told. told.items ≡ codes "note: " ++ (words.now ++ (codes "\n" ++ pointed.now))) }
+{
+    joined(alloc, &[b"note: ", words, b"\n", pointed])
+}
+
+// The line of a place with its number, and a mark under the place.
+fn shown_at(alloc: Global, text: &[u8], place: Place) -> Result<Vec<u8>, Memory>
+    ensures { IfOk result (λ told. told.items ≡ pointed place.line place.column (shown_line text.now place.line)) }
+{
+    pointed(alloc, place, without_cr(line_at(text, place.line)))
 }
 
 /// A fault that has no place.

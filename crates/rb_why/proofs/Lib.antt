@@ -1,2 +1,4 @@
 pub mod Standing
 pub mod Telling
+pub mod Listing
+pub mod Habitual

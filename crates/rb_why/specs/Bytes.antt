@@ -1,10 +1,10 @@
 -- Sentences about bytes that no token has, and about texts that do not end.
-use Rattle.std.specs.Prelude.{ℕ, nat_eq, ◌==◌, Bool, ◌&&◌, cond, List, [], ◌∷◌, length, drop, take, codes, decimal}
+use Rattle.std.specs.Prelude.{ℕ, nat_eq, nat_le, ◌==◌, Bool, ◌&&◌, cond, List, [], ◌∷◌, ◌++◌, length, drop, take, codes, decimal}
 use Rattle.std.specs.List.{list_any}
 use Rattle.std.specs.Cmp.Lexicographic.{pointwise}
 use Rattle.rb_base.specs.declared.fault.FaultName.TheVariants.{X1, X2}
 use Rattle.rb_base.specs.declared.place.Place.{Place}
-use Rattle.rb_lex.specs.Bytes.{first_place}
+use Rattle.rb_lex.specs.Bytes.{first_place, is_printable}
 use Rattle.rb_sched.specs.Schedule.{without_cr}
 use Rattle.rb_frame.specs.Lines.{before, line_at}
 use Rattle.rb_frame.specs.Places.{is_place}
@@ -31,10 +31,15 @@ from_place source place = drop (length (before source place)) source
 abbrev pub line_from : List ℕ → Place → List ℕ
 line_from source place = without_cr (line_at 1 (from_place source place))
 
--- the sentence about the byte at the front, which can't stand there
+-- the sentence about the byte at the front, which can't stand there: a tab that can't stand somewhere stands in a text
 abbrev pub front_byte_words : List ℕ → List ℕ
 front_byte_words [] = sentence X1 []
-front_byte_words (b ∷ bs) = cond (b == 58) (codes "a `:` has no `=` behind it") (sentence X1 (decimal b))
+front_byte_words (b ∷ bs) =
+    cond (b == 58) (codes "a `:` has no `=` behind it")
+    (cond (b == 9) (codes "a tab stands in this text: write blanks")
+    (cond (is_printable b) (codes "`" ++ (b ∷ codes "` begins no token"))
+    (cond (nat_le 128 b) (codes "the byte " ++ (decimal b ++ codes " is no ASCII, and a source has no other bytes"))
+    (sentence X1 (decimal b)))))
 
 -- the sentence about the byte at a place of a source, which can't stand there: a byte order mark is one at the first place alone
 abbrev pub byte_words : List ℕ → Place → List ℕ

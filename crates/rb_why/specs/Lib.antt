@@ -7,6 +7,9 @@ pub mod Nested
 pub mod Expected
 pub mod Bytes
 pub mod Likeness
+pub mod Habits
+pub mod Open
+pub mod Remarks
 pub mod Source
 pub mod Text
 pub mod Stuck

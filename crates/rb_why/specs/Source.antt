@@ -1,5 +1,5 @@
 -- Why a source is refused, in words.
-use Rattle.std.specs.Prelude.{◌≡◌, ℕ, nat_lt, cond, List, [], ◌∷◌, ◌++◌, length, codes}
+use Rattle.std.specs.Prelude.{◌≡◌, ℕ, nat_le, Bool, not, ◌&&◌, cond, List, [], ◌∷◌, ◌++◌, length, codes}
 use Rattle.rb_base.specs.Words.{fault_word}
 use Rattle.rb_base.specs.declared.fault.FaultName.{FaultName}
 use Rattle.rb_base.specs.declared.fault.FaultName.TheVariants.{X1, X2, Y1, N3, N4}
@@ -7,12 +7,13 @@ use Rattle.rb_base.specs.declared.fault.SourceFault.{SourceFault}
 use Rattle.rb_base.specs.declared.place.Place.{Place}
 use Rattle.rb_lex.specs.TokenList.{tokens_of}
 use Rattle.rb_why.specs.Bytes.{byte_words, open_words}
-use Rattle.rb_why.specs.Expected.{TellsTried}
-use Rattle.rb_frame.specs.Frame.{framed}
+use Rattle.rb_why.specs.Expected.{TellsTried, told_first}
+use Rattle.rb_frame.specs.Frame.{framed_with}
 use Rattle.rb_why.specs.Likeness.{reads_like_schedule}
 use Rattle.rb_frame.specs.Lines.{before}
 use Rattle.rb_why.specs.Nested.{elsewhere, lacking}
 use Rattle.rb_why.specs.Phrases.{sentence}
+use Rattle.rb_why.specs.Remarks.{is_about_token, remarks}
 use Rattle.rb_why.specs.Tokens.{text_at}
 use Rattle.rb_why.specs.declared.expected.TheConstants.{MOST_TRIED}
 use Rattle.rb_why.specs.declared.source.Way.{Way}
@@ -32,35 +33,42 @@ abbrev pub stray_words : List ℕ → List ℕ
 stray_words [] = codes "the source ends too early"
 stray_words (b ∷ bs) = sentence Y1 (b ∷ bs)
 
--- with these that may stand there
-abbrev pub with_list : List ℕ → List ℕ → List ℕ
-with_list words expected = words ++ (codes "; what may stand here: " ++ expected)
-
--- with what may stand there, if anything may
-abbrev pub with_expected : List ℕ → List ℕ → List ℕ
+-- with these that may stand there, if any may
+abbrev pub with_expected : List ℕ → List (List ℕ) → List ℕ
 with_expected words [] = words ++ codes ": the program has ended"
-with_expected words (b ∷ bs) = with_list words (b ∷ bs)
+with_expected words (token ∷ tokens) = words ++ (codes "; expected " ++ told_first (token ∷ tokens))
 
--- the sentence about a place where a token is stray, or the source ends: with what may stand there, where not too much stands before
-abbrev pub SaysStray : List ℕ → List ℕ → Place → List ℕ → Type 0
-SaysStray source token place words =
-    cond (reads_like_schedule source) (words ≡ codes "this reads like a schedule, and a source is wanted here")
-    (cond (nat_lt MOST_TRIED (length (before source place))) (words ≡ stray_words token)
-    ((expected : List ℕ) × TellsTried (before source place) place.line expected × (words ≡ with_expected (stray_words token) expected)))
+-- whether it is tried what may stand in place of a stray token: where the text is a source, and not too much stands before
+abbrev pub is_tried : List ℕ → Place → Bool
+is_tried source place = not (reads_like_schedule source) && nat_le (length (before source place)) MOST_TRIED
+
+-- what may stand at the place of a fault, where that is tried
+abbrev pub Tries : List ℕ → SourceFault → List (List ℕ) → Type 0
+Tries source fault may =
+    cond (is_about_token fault.name && is_tried source fault.place) (TellsTried (before source fault.place) fault.place.line may) (may ≡ [])
+
+-- the sentence about a place where a token is stray, or the source ends
+abbrev pub stray_told : List ℕ → Place → List (List ℕ) → List ℕ
+stray_told source place may =
+    cond (reads_like_schedule source) (codes "this reads like a schedule, and a source is wanted here")
+    (cond (is_tried source place) (with_expected (stray_words (text_at place (tokens_of source))) may)
+    (stray_words (text_at place (tokens_of source))))
 
 -- the sentence about a fault of a source, the token at whose place is what it is about
-abbrev pub SaysBy : Way → List ℕ → SourceFault → List ℕ → Type 0
-SaysBy ways.Byte source fault words = words ≡ byte_words source fault.place
-SaysBy ways.Open source fault words = words ≡ open_words source fault.place
-SaysBy ways.Stray source fault words = SaysStray source (text_at fault.place (tokens_of source)) fault.place words
-SaysBy ways.Lacking source fault words = words ≡ lacking (tokens_of source) fault.place
-SaysBy ways.Elsewhere source fault words = words ≡ elsewhere (tokens_of source) fault.place
-SaysBy ways.Token source fault words = words ≡ sentence fault.name (text_at fault.place (tokens_of source))
+abbrev pub words_by : Way → List ℕ → SourceFault → List (List ℕ) → List ℕ
+words_by ways.Byte source fault may = byte_words source fault.place
+words_by ways.Open source fault may = open_words source fault.place
+words_by ways.Stray source fault may = stray_told source fault.place may
+words_by ways.Lacking source fault may = lacking (tokens_of source) fault.place
+words_by ways.Elsewhere source fault may = elsewhere (tokens_of source) fault.place
+words_by ways.Token source fault may = sentence fault.name (text_at fault.place (tokens_of source))
 
-abbrev pub Says : List ℕ → SourceFault → List ℕ → Type 0
-Says source fault words = SaysBy (way_of fault.name) source fault words
+-- the sentence and the remarks, where this may stand at the place
+abbrev pub reason_told : List ℕ → List ℕ → SourceFault → List (List ℕ) → List ℕ
+reason_told file source fault may =
+    framed_with file source fault.place (fault_word fault.name) (words_by (way_of fault.name) source fault may) (remarks source fault may)
 
 -- why a source of this file is refused for this fault
 abbrev pub IsReason : List ℕ → List ℕ → SourceFault → List ℕ → Type 0
 IsReason file source fault told =
-    (words : List ℕ) × Says source fault words × (told ≡ framed file source fault.place (fault_word fault.name) words)
+    (may : List (List ℕ)) × Tries source fault may × (told ≡ reason_told file source fault may)

@@ -1,9 +1,11 @@
 //! Sentences about bytes that no token has, and about texts that do not end.
 
-ghost use Rattle.std.specs.Prelude.{◌≡◌, IfOk};
+ghost use Rattle.std.specs.Prelude.{◌≡◌, ◌++◌, ◌∷◌, codes, cond, decimal, nat_le, IfOk};
+ghost use Rattle.rb_base.specs.declared.fault.FaultName.TheVariants.{X1};
+ghost use Rattle.rb_why.specs.Phrases.{sentence};
 ghost use Rattle.rb_why.specs.Bytes.{byte_words, carriage_return_words, from_place, front_byte_words, has_cr, has_order_mark, line_from, open_words, order_mark_words};
 
-use crate::phrases::sentence;
+use crate::phrases::{around, sentence};
 use itoa::Buffer;
 use rb_base::{FaultName, Memory, Place};
 use rb_frame::joined::joined;
@@ -49,8 +51,8 @@ pub(crate) fn has_cr(bytes: &[u8]) -> bool
     bytes.contains(&b'\r')
 }
 
-// The source from a place on.
-fn from_place(source: &[u8], place: Place) -> &[u8]
+/// The source from a place on.
+pub(crate) fn from_place(source: &[u8], place: Place) -> &[u8]
     ensures { result.now ≡ from_place source.now place }
 {
     &source[before(source, place).len()..]
@@ -80,11 +82,39 @@ fn front_byte_sentence(alloc: Global, rest: &[u8]) -> Result<Vec<u8>, Memory>
     let Some(byte) = rest.first() else {
         return sentence(alloc, FaultName::X1, b"");
     };
-    if *byte == b':' {
-        return joined(alloc, &[b"a `:` has no `=` behind it"]);
+    match *byte {
+        b':' => joined(alloc, &[b"a `:` has no `=` behind it"]),
+        b'\t' => joined(alloc, &[b"a tab stands in this text: write blanks"]),
+        b' '..=b'~' => mark_sentence(alloc, *byte),
+        _ => other_byte_sentence(alloc, *byte),
     }
+}
+
+// That a byte of printable ASCII begins no token.
+fn mark_sentence(alloc: Global, byte: u8) -> Result<Vec<u8>, Memory>
+    ensures { IfOk result (λ words. words.items ≡ codes "`" ++ (byte ∷ codes "` begins no token")) }
+{
+    let mark = [byte];
+    around(alloc, b"`", &mark, b"` begins no token")
+}
+
+// That a byte is no ASCII, or none that stands in a source.
+fn other_byte_sentence(alloc: Global, byte: u8) -> Result<Vec<u8>, Memory>
+    ensures { IfOk result (λ words. words.items ≡ cond (nat_le 128 byte)
+        (codes "the byte " ++ (decimal byte ++ codes " is no ASCII, and a source has no other bytes")) (sentence X1 (decimal byte))) }
+{
     let mut digits = Buffer::new();
-    sentence(alloc, FaultName::X1, digits.format(*byte).as_bytes())
+    let number = digits.format(byte).as_bytes();
+    if byte >= 128 {
+        around(
+            alloc,
+            b"the byte ",
+            number,
+            b" is no ASCII, and a source has no other bytes",
+        )
+    } else {
+        sentence(alloc, FaultName::X1, number)
+    }
 }
 
 /// That the text whose opening quote stands at this place has no closing quote on its line.

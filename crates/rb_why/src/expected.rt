@@ -1,17 +1,16 @@
 //! What may stand at a place of a source in place of what stands there: each token is tried by the parser itself.
 
-ghost use Rattle.std.specs.Prelude.{◌≡◌, ◌↔◌, ◌≤◌, ◌&&◌, nat_eq, not, [], codes, length, map, IfOk, IsTrue};
-ghost use Rattle.rb_why.specs.Expected.{GoesOn, IsOther, IsRefusedBehind, IsTold, MayStand, Tells, TellsTried, front_behind, is_name_there, is_own, label, tried, trial};
+ghost use Rattle.std.specs.Prelude.{◌≡◌, ◌↔◌, ◌≤◌, ◌++◌, ◌&&◌, nat_eq, not, [], codes, length, map, take, IfOk, IsTrue};
+ghost use Rattle.rb_why.specs.Expected.{GoesOn, IsOther, IsRefusedBehind, IsTold, MayStand, Tells, TellsTried, front_behind, is_name_there, is_own, label, labels, others, told_first, tried, trial};
 ghost use Rattle.std.specs.Cmp.Lexicographic.{pointwise};
-ghost use Rattle.rb_why.specs.Listed.{with_word};
-ghost use Rattle.rb_lex.specs.TokenList.{tokens_of};
-ghost use Rattle.rb_why.specs.Tokens.{text_at};
-ghost use Rattle.rb_why.specs.Source.{SaysStray, stray_words, with_expected, with_list};
+ghost use Rattle.rb_why.specs.declared.expected.TheConstants.{MOST_TOLD};
+ghost use Rattle.rb_why.specs.Source.{is_tried, stray_told, stray_words, with_expected};
 
 use crate::likeness::reads_like_schedule;
 use crate::listed::{quoted, with_word};
-use crate::phrases::sentence;
+use crate::phrases::{around, sentence};
 use crate::tokens::token_text;
+use itoa::Buffer;
 use rb_base::bytes::is_name;
 use rb_base::{FaultName, MOST_BYTES, Memory, Place, Refusal};
 use rb_frame::joined::joined;
@@ -23,11 +22,18 @@ use std::alloc::Global;
 
 /// The most bytes before a place for which it is tried what may stand there: each of some 60 trials reads them all.
 const MOST_TRIED: usize = 16_384;
+/// The most tokens that are named of those that may stand at a place.
+const MOST_TOLD: usize = 5;
 
-/// That a token can't stand at a place of a source, or that the source ends there too early, and what may stand there.
-pub(crate) fn stray_sentence(alloc: Global, source: &[u8], place: Place) -> Result<Vec<u8>, Memory>
+/// That a token can't stand at a place of a source, or that the source ends there too early, and which ones may stand there.
+pub(crate) fn stray_sentence(
+    alloc: Global,
+    source: &[u8],
+    place: Place,
+    may: &[&'static [u8]],
+) -> Result<Vec<u8>, Memory>
     requires { length source.now ≤ MOST_BYTES }
-    ensures { IfOk result (λ words. SaysStray source.now (text_at place (tokens_of source.now)) place words.items) }
+    ensures { IfOk result (λ words. words.items ≡ stray_told source.now place (map (λ token. token.now) may.now)) }
 {
     if reads_like_schedule(source) {
         return joined(
@@ -36,13 +42,18 @@ pub(crate) fn stray_sentence(alloc: Global, source: &[u8], place: Place) -> Resu
         );
     }
     let words = stray_words(alloc, token_text(source, place))?;
-    let before = before(source, place);
-    if before.len() > MOST_TRIED {
-        return Ok(words);
+    if is_tried(source, place) {
+        with_expected(alloc, words.as_slice(), may)
+    } else {
+        Ok(words)
     }
-    let expected = expected(alloc, before, place.line)?;
-    let told = with_expected(alloc, words.as_slice(), expected.as_slice())?;
-    Ok(told)
+}
+
+/// Whether it is tried what may stand in place of a stray token.
+pub(crate) fn is_tried(source: &[u8], place: Place) -> bool
+    ensures { result ≡ is_tried source.now place }
+{
+    !reads_like_schedule(source) && before(source, place).len() <= MOST_TRIED
 }
 
 fn stray_words(alloc: Global, token: &[u8]) -> Result<Vec<u8>, Memory>
@@ -56,33 +67,91 @@ fn stray_words(alloc: Global, token: &[u8]) -> Result<Vec<u8>, Memory>
 }
 
 // With what may stand there, if anything may.
-fn with_expected<'w>(alloc: Global, words: &'w [u8], expected: &'w [u8]) -> Result<Vec<u8>, Memory>
-    ensures { IfOk result (λ told. told.items ≡ with_expected words.now expected.now) }
+#[tactic(auto, using(crate::proofs::Listing::with_some, crate::proofs::Listing::with_none))]
+fn with_expected(alloc: Global, words: &[u8], may: &[&'static [u8]]) -> Result<Vec<u8>, Memory>
+    ensures { IfOk result (λ told. told.items ≡ with_expected words.now (map (λ token. token.now) may.now)) }
 {
-    if expected.is_empty() {
-        joined(alloc, &[words, b": the program has ended"])
+    if let [_, ..] = may {
+        let first = told_first(alloc, may)?;
+        let told = around(alloc, words, b"; expected ", first.as_slice())?;
+        Ok(told)
     } else {
-        with_list(alloc, words, expected)
+        let told = around(alloc, words, b": the program has ended", b"")?;
+        Ok(told)
     }
 }
 
-fn with_list<'w>(alloc: Global, words: &'w [u8], expected: &'w [u8]) -> Result<Vec<u8>, Memory>
-    ensures { IfOk result (λ told. told.items ≡ with_list words.now expected.now) }
+// The first tokens of a list as they are told, and how many others there are.
+#[tactic(auto, using(crate::proofs::Listing::first_and_others))]
+fn told_first(alloc: Global, tokens: &[&'static [u8]]) -> Result<Vec<u8>, Memory>
+    ensures { IfOk result (λ words. words.items ≡ told_first (map (λ token. token.now) tokens.now)) }
 {
-    joined(alloc, &[words, b"; what may stand here: ", expected])
+    let labels = labels(alloc, first_tokens(tokens))?;
+    let others = others(alloc, tokens.len().saturating_sub(MOST_TOLD))?;
+    let told = around(alloc, labels.as_slice(), others.as_slice(), b"")?;
+    Ok(told)
 }
 
-/// The tokens that may stand behind a text that ends on this line, with commas between them. A token may stand there where the text with
-/// it, on a line of its own, is not refused at it.
-pub(crate) fn expected(alloc: Global, before: &[u8], line: u32) -> Result<Vec<u8>, Memory>
-    ensures { IfOk result (λ told. TellsTried before.now line told.items) }
+// The tokens that are named of a list.
+#[tactic(auto, using(crate::proofs::Listing::cut_short))]
+fn first_tokens<'t>(tokens: &'t [&'static [u8]]) -> &'t [&'static [u8]]
+    ensures { map (λ token. token.now) result.now ≡ take MOST_TOLD (map (λ token. token.now) tokens.now) }
+{
+    if tokens.len() > MOST_TOLD {
+        &tokens[..MOST_TOLD]
+    } else {
+        tokens
+    }
+}
+
+// Tokens as they are told.
+fn labels(alloc: Global, tokens: &[&'static [u8]]) -> Result<Vec<u8>, Memory>
+    ensures { IfOk result (λ words. words.items ≡ labels (map (λ token. token.now) tokens.now) []) }
+{
+    let mut told = Vec::new(alloc);
+    let mut rest = tokens;
+    while let [token, after @ ..] = rest {
+        let label = label(alloc, token)?;
+        told = with_word(alloc, told.as_slice(), label.as_slice())?;
+        rest = after;
+    }
+    Ok(told)
+}
+
+// How many tokens there are beside those that are named.
+fn others(alloc: Global, count: usize) -> Result<Vec<u8>, Memory>
+    ensures { IfOk result (λ words. words.items ≡ others count) }
+{
+    if count == 0 {
+        return Ok(Vec::new(alloc));
+    }
+    if count == 1 {
+        return joined(alloc, &[b" or 1 other"]);
+    }
+    let mut digits = Buffer::new();
+    around(alloc, b" or ", digits.format(count).as_bytes(), b" others")
+}
+
+/// The tokens that may stand behind a text that ends on this line, in their order. A token may stand there where the text with it, on a line
+/// of its own, is not refused at it.
+pub(crate) fn expected(
+    alloc: Global,
+    before: &[u8],
+    line: u32,
+) -> Result<Vec<&'static [u8]>, Memory>
+    ensures { IfOk result (λ told. TellsTried before.now line (map (λ token. token.now) told.items)) }
 {
     told_among(alloc, before, line, tried())
 }
 
 // Those of these tokens.
-fn told_among(alloc: Global, before: &[u8], line: u32, tokens: &[&[u8]]) -> Result<Vec<u8>, Memory>
-    ensures { IfOk result (λ told. Tells before.now line (map (λ token. token.now) tokens.now) [] told.items) }
+fn told_among(
+    alloc: Global,
+    before: &[u8],
+    line: u32,
+    tokens: &'static [&'static [u8]],
+) -> Result<Vec<&'static [u8]>, Memory>
+    ensures { IfOk result (λ told. Tells before.now line (map (λ token. token.now) tokens.now) [] (map (λ token. token.now) told.items)) }
 {
     let mut told = Vec::new(alloc);
     let mut rest = tokens;
@@ -93,28 +162,21 @@ fn told_among(alloc: Global, before: &[u8], line: u32, tokens: &[&[u8]]) -> Resu
     Ok(told)
 }
 
-// The list after a token was tried.
+// What was told after a token was tried.
 fn with_tried(
     alloc: Global,
     before: &[u8],
     line: u32,
-    told: Vec<u8>,
-    token: &[u8],
-) -> Result<Vec<u8>, Memory>
-    ensures { IfOk result (λ next. GoesOn before.now line token.now told.items next.items) }
+    told: Vec<&'static [u8]>,
+    token: &'static [u8],
+) -> Result<Vec<&'static [u8]>, Memory>
+    ensures { IfOk result (λ next. GoesOn before.now line token.now (map (λ t. t.now) told.entry.items) (map (λ t. t.now) next.items)) }
 {
+    let mut next = told;
     if is_told(alloc, before, line, token)? {
-        with_label(alloc, told.as_slice(), token)
-    } else {
-        Ok(told)
+        next.push(token)?;
     }
-}
-
-fn with_label(alloc: Global, told: &[u8], token: &[u8]) -> Result<Vec<u8>, Memory>
-    ensures { IfOk result (λ next. next.items ≡ with_word told.now (label token.now)) }
-{
-    let label = label(alloc, token)?;
-    with_word(alloc, told, label.as_slice())
+    Ok(next)
 }
 
 // How a token is told.
@@ -231,68 +293,68 @@ fn front_behind(line: u32) -> Place
     }
 }
 
-// One token of each kind: a name, a number, 2, a text, and each word and mark.
+// One token of each kind, in the order in which they are told.
 fn tried() -> &'static [&'static [u8]]
     ensures { map (λ token. token.now) result.now ≡ tried }
 {
     &[
+        b";",
+        b")",
+        b"]",
+        b":=",
+        b"{",
+        b"}",
+        b".",
+        b":",
+        b"by",
+        b"within",
+        b"error",
+        b"from",
+        b"to",
+        b"size",
+        b"(",
         b"x",
         b"1",
         b"2",
         b"\"t\"",
-        b"all",
-        b"and",
-        b"by",
+        b",",
+        b"program",
+        b"process",
+        b"end",
+        b"edition",
+        b"print",
+        b"if",
+        b"while",
+        b"ensure",
         b"call",
+        b"var",
+        b"send",
+        b"receive",
+        b"converse",
+        b"fail",
+        b"else",
+        b"procedure",
         b"channel",
         b"conversation",
-        b"converse",
-        b"edition",
-        b"else",
-        b"end",
-        b"ensure",
-        b"error",
-        b"every",
-        b"fail",
-        b"from",
-        b"if",
-        b"not",
-        b"or",
-        b"print",
-        b"prior",
-        b"procedure",
-        b"process",
-        b"program",
-        b"receive",
-        b"send",
-        b"size",
-        b"some",
-        b"sum",
-        b"to",
-        b"var",
-        b"while",
-        b"within",
-        b";",
-        b",",
-        b".",
-        b":",
-        b"(",
-        b")",
-        b"{",
-        b"}",
         b"[",
-        b"]",
-        b":=",
+        b"+",
+        b"-",
+        b"*",
+        b"/",
+        b"%",
         b"=",
         b"<>",
         b"<",
         b"<=",
         b">",
         b">=",
-        b"+",
-        b"-",
-        b"*",
-        b"/",
-        b"%",
+        b"and",
+        b"or",
+        b"not",
+        b"prior",
+        b"every",
+        b"some",
+        b"sum",
+        b"all",
     ]
 }

@@ -1,6 +1,7 @@
 //! Words with commas between them.
 
-ghost use Rattle.std.specs.Prelude.{◌≡◌, [], IfOk};
+ghost use Rattle.std.specs.Prelude.{◌≡◌, [], map, IfOk};
+ghost use Rattle.rb_base.specs.Reserved.{is_one_of};
 ghost use Rattle.rb_base.specs.Naming.{process_names};
 ghost use Rattle.rb_why.specs.Listed.{listed, quoted, with_word};
 
@@ -27,6 +28,20 @@ pub(crate) fn quoted(alloc: Global, word: &[u8]) -> Result<Vec<u8>, Memory>
     ensures { IfOk result (λ words. words.items ≡ quoted word.now) }
 {
     joined(alloc, &[b"`", word, b"`"])
+}
+
+/// Whether a word is one of these.
+pub(crate) fn is_among(words: &[&'static [u8]], word: &[u8]) -> bool
+    ensures { result ≡ is_one_of (map (λ w. w.now) words.now) word.now }
+{
+    let mut rest = words;
+    while let [other, after @ ..] = rest {
+        if *other == word {
+            return true;
+        }
+        rest = after;
+    }
+    false
 }
 
 /// The processes of a program, in the order of declaration.

@@ -14,8 +14,8 @@ pub(crate) fn sentence(alloc: Global, name: FaultName, subject: &[u8]) -> Result
     around(alloc, front_words(name), subject, back_words(name))
 }
 
-// The references of one list have one lifetime.
-fn around<'w>(
+/// Bytes between two others; the references of one list have one lifetime.
+pub(crate) fn around<'w>(
     alloc: Global,
     front: &'w [u8],
     subject: &'w [u8],
