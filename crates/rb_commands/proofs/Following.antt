@@ -8,7 +8,8 @@ use Rattle.rb_back.specs.Showing.{Shows}
 use Rattle.rb_back.specs.declared.showing.Stopped.{Stopped}
 use Rattle.rb_back.specs.declared.showing.Stopped.TheVariants as stopped
 use Rattle.rb_hall.specs.declared.command.Unwritten.{Unwritten}
-use Rattle.rb_commands.specs.Written.{PutsFrontOrMemory, PutsOrMemory, unwritten_of_following, unwritten_of_survival}
+use Rattle.rb_turns.specs.Written.{PutsOrMemory}
+use Rattle.rb_commands.specs.Written.{PutsFrontOrMemory, unwritten_of_following, unwritten_of_survival}
 use Rattle.rb_commands.specs.declared.why.Why.{Why}
 
 module _ (text meant : List ℕ) (same : text ≡ meant) where

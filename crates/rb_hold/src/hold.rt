@@ -142,8 +142,8 @@ fn count_ends(bytes: &[u8]) -> usize
     bytes.iter().filter(|byte| **byte == b'\n').count()
 }
 
-// The length of the first of stored lines, if there is one.
-fn first_length(bytes: &[u8]) -> Option<usize>
+/// The length of the first of stored lines, if there is one.
+pub fn first_length(bytes: &[u8]) -> Option<usize>
     requires { AreLines bytes.now }
     ensures { result ≡ option_map length (slice_get (lines_in bytes.now) 0) }
 {

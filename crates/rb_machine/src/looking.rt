@@ -13,6 +13,14 @@ use rb_conv::Table;
 use rb_proc::{LevelView, Proc, ProcessStatus};
 use std::sync::ledger::Ledger;
 
+/// Process p itself.
+pub fn process_at<L: Ledger>(procs: &[Proc<L>], p: u32) -> &Proc<L>
+    requires { p < length procs.now }
+    ensures { slice_get (processes_of procs.now) p ≡ Some result.now.process }
+{
+    &procs[p as usize]
+}
+
 /// Whether process p runs, is done, or has failed, and then with which cause.
 pub fn status_at<L: Ledger>(procs: &[Proc<L>], p: u32) -> ProcessStatus
     requires { p < length procs.now }

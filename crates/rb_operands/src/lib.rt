@@ -8,7 +8,6 @@ pub mod deciding;
 pub mod line;
 pub mod next;
 pub mod operands;
-pub mod room;
 
 pub use bench::Bench;
 pub use next::{Ended, Next};

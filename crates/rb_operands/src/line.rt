@@ -6,9 +6,9 @@ ghost use Rattle.rb_code.specs.WordMachine.Act.{joined_pieces};
 ghost use Rattle.rb_hold.specs.Held.{IsLine};
 ghost use Rattle.rb_operands.specs.Pieces.{AreTexts, IsText, piece_text};
 
-use crate::room::put;
 use itoa::Buffer;
 use rb_base::{MOST_ITEMS, Memory, Text};
+use rb_hold::room::put;
 use std::alloc::Global;
 use std::marker::Model;
 

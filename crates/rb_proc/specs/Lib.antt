@@ -7,6 +7,7 @@ pub mod Kinds
 pub mod Runs
 pub mod Given
 pub mod Process
+pub mod Memories
 pub mod Work
 pub mod Entries
 pub mod ProcessInside

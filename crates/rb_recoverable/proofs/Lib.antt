@@ -9,3 +9,4 @@ pub mod TouchedPlaces
 pub mod Leaving
 pub mod Counted
 pub mod Looked
+pub mod Copied

@@ -1,10 +1,12 @@
 -- What callers see of an open level.
-use Rattle.std.specs.Prelude.{◌≡◌, ℕ, Option, Some, None}
+use Rattle.std.specs.Prelude.{◌≡◌, ◌≤◌, ℕ, List, length, drop, Option, Some, None}
 use Rattle.rb_world.specs.Kind.{Facts}
 use Rattle.rb_world.specs.World.{Level}
 use Rattle.rb_code.specs.Instructions.Plain.{Code}
 use Rattle.rb_code.specs.WordMachine.Turn.{Copy}
+use Rattle.rb_code.specs.WordMachine.Workspace.{OpenCall}
 use Rattle.rb_code.specs.WordMachine.WordKind.{cursor_in}
+use Rattle.rb_recoverable.specs.declared.level_view.CopyView.{CopyView}
 use Rattle.rb_recoverable.specs.declared.level_view.LevelView.{LevelView}
 
 abbrev pub facts_seen : LevelView → Facts
@@ -30,3 +32,15 @@ CursorThen c p channel (Some level) n = n ≡ cursor_in c p level.copy.words cha
 abbrev pub IsEntryOf : Option (Level Copy) → ℕ → Type 0
 IsEntryOf None turn = ⊥
 IsEntryOf (Some level) turn = turn ≡ level.copy.last_kept
+
+-- Of the copy of a level this is the address and how many words it has; its calls are those that are open now, without the newest.
+pub record IsCopy (copy : Copy) (calls : List OpenCall) (view : CopyView) : Type 0 where
+  pub at : view.at ≡ copy.at
+  pub height : view.height ≡ length copy.words
+  pub newer : view.newer_calls ≤ length calls
+  pub calls_then : copy.calls ≡ drop view.newer_calls calls
+
+-- a level is there, and so is its copy
+abbrev pub IsCopyOf : Option (Level Copy) → List OpenCall → CopyView → Type 0
+IsCopyOf None calls view = ⊥
+IsCopyOf (Some level) calls view = IsCopy level.copy calls view

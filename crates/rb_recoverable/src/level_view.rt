@@ -12,3 +12,12 @@ pub struct LevelView {
     pub alternate: u32,
     pub used: u32,
 }
+
+/// The copy of an open level beside its words: the address at which its process stood, how many words there were, and how many of the calls
+/// that are open now were opened since: those are the newest ones, and the others are the copy's.
+#[derive(Clone, Copy)]
+pub struct CopyView {
+    pub at: u32,
+    pub height: u32,
+    pub newer_calls: usize,
+}

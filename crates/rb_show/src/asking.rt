@@ -15,9 +15,9 @@ use crate::trace::Trace;
 use clap::error::ErrorKind;
 use clap::{ArgMatches, Command};
 use rb_base::Memory;
-use rb_commands::Words;
 use rb_commands::saying::Saying;
 use rb_reasons::reason_of;
+use rb_asking::Words;
 use rb_words::{are_plain, command_with};
 use std::alloc::{AllocError, Global};
 

@@ -3,7 +3,7 @@ ghost use Rattle.std.specs.Prelude.{◌≡◌, ℕ, List, IfOk, MatchOption};
 ghost use Rattle.rb_web.specs.Asked.{AreWords};
 
 use rb_base::Memory;
-use rb_commands::Words;
+use rb_asking::Words;
 use std::alloc::Global;
 
 /// The text of words, each ended by a byte 0. None where the bytes are no UTF-8, or the last word is not ended.

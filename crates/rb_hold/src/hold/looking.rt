@@ -16,6 +16,14 @@ impl Hold {
         count_lines(&self.lines[..self.held])
     }
 
+    /// The held lines as they are stored, one after another, each with LF behind it.
+    pub fn held_text(&self) -> &[u8]
+        ensures lines { lines_in result.now ≡ self.now.held }
+        ensures stored { AreLines result.now }
+    {
+        &self.lines[..self.held]
+    }
+
     /// The line that is held last, if one is.
     pub fn last_held(&self) -> Option<&[u8]>
         ensures { option_copied result ≡ slice_get self.now.held (length self.now.held - 1) }

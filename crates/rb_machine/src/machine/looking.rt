@@ -4,18 +4,24 @@ ghost use Rattle.std.specs.Prelude.{◌≡◌, ◌+◌, ◌-◌, ◌<◌, ◌≤
 ghost use Rattle.rb_base.specs.declared.limits.TheConstants.{MOST_HELD_BYTES};
 ghost use Rattle.rb_world.specs.Slots.{slot_of};
 ghost use Rattle.rb_world.specs.World.{Process, Talk, last_of};
+ghost use Rattle.rb_code.specs.Instructions.Plain.{code as plain};
 ghost use Rattle.rb_code.specs.WordMachine.Turn.{Copy, Standing};
+ghost use Rattle.rb_proc.specs.Sees.{AreSized};
 ghost use Rattle.rb_proc.specs.Statuses.{status_of};
 ghost use Rattle.rb_recoverable.specs.Views.{IsEntryOf, IsViewOf};
+ghost use Rattle.rb_recovery.specs.Known.{IsSoundFor};
 ghost use Rattle.rb_machine.specs.Looking.{IsViewOn};
 
 use super::Machine;
 use crate::channel_view::{ChannelView, view_at};
 use crate::looking::{
-    alternate_at, entered_at, held_at, is_broken_at, last_held_at, level_at, levels_at, status_at,
+    alternate_at, entered_at, held_at, is_broken_at, last_held_at, level_at, levels_at, process_at,
+    status_at,
 };
 use rb_base::Steps;
-use rb_proc::{LevelView, ProcessStatus};
+use rb_code::Code;
+use rb_mail::Mails;
+use rb_proc::{LevelView, Proc, ProcessStatus};
 use rb_ready::message_at;
 use std::sync::ledger::Ledger;
 
@@ -26,6 +32,33 @@ impl<'a, L: Ledger> Machine<'a, L> {
         ensures { (q : Process Standing Copy) → slice_get self.now.world.processes p ≡ Some q → status_of result ≡ q.status }
     {
         status_at(&self.parts.procs, p)
+    }
+
+    /// Process p itself, whose number is p.
+    pub fn process(&self, p: u32) -> &Proc<L>
+        requires { p < length self.now.world.processes }
+        ensures process { slice_get self.now.world.processes p ≡ Some result.now.process }
+        ensures number { result.now.process.state.process ≡ p }
+    {
+        process_at(&self.parts.procs, p)
+    }
+
+    /// The code, which is sound; there are as many processes and as many conversations as it names.
+    pub fn code(&self) -> &'a Code
+        ensures code { plain result.now ≡ self.now.code }
+        ensures sound { IsSoundFor self.now.code self.now.groups }
+        ensures processes { length self.now.world.processes ≡ length self.now.code.processes }
+        ensures conversations { length self.now.world.talks ≡ length self.now.groups }
+    {
+        self.code
+    }
+
+    /// The slots of the channels by number, each with as many as its size.
+    pub fn mails(&self) -> &Mails
+        ensures slots { result.now ≡ self.now.world.memory.slots }
+        ensures sized { AreSized self.now.code result.now }
+    {
+        &self.parts.mails
     }
 
     /// How many levels process p has open.

@@ -1,11 +1,13 @@
-//! A process as it is looked at beside turns: the turns of its entries, and its held lines.
+//! A process as it is looked at beside turns: the turns of its entries, its held lines, and all that it can recover.
 
 ghost use Rattle.std.specs.Prelude.{◌≡◌, ◌<◌, ◌≤◌, length, slice_get, option_copied};
 ghost use Rattle.rb_base.specs.declared.limits.TheConstants.{MOST_HELD_BYTES};
 ghost use Rattle.rb_world.specs.World.{last_of};
 ghost use Rattle.rb_recoverable.specs.Views.{IsEntryOf};
+ghost use Rattle.rb_proc.specs.Memories.{IsMemoryOf};
 
 use super::Proc;
+use rb_recoverable::recoverable::Recoverable;
 use std::sync::ledger::Ledger;
 
 impl<L: Ledger> Proc<L> {
@@ -15,6 +17,13 @@ impl<L: Ledger> Proc<L> {
         ensures { IsEntryOf (slice_get self.now.process.levels k) result }
     {
         self.memory.entered(k)
+    }
+
+    /// Its words, its calls, its held lines and its levels.
+    pub fn memory(&self) -> &Recoverable<L>
+        ensures { IsMemoryOf self.now.process result.now }
+    {
+        &self.memory
     }
 
     /// How many lines are held.

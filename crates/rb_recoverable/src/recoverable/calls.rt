@@ -13,7 +13,7 @@ ghost use Rattle.rb_recoverable.specs.Places.{most_places};
 use super::words::push_words;
 use super::{OpenCall, Recoverable};
 use rb_base::Steps;
-use rb_operands::room::put;
+use rb_hold::room::put;
 use std::sync::ledger::Ledger;
 
 impl<L: Ledger> Recoverable<L> {

@@ -15,7 +15,7 @@ use crate::level_view::LevelView;
 use crate::marks::{begin_earlier, first_over, is_last_in, next_mark, place_in, sooner, view_of};
 use rb_cache::Cache;
 use rb_cell::Cells;
-use rb_operands::room::put;
+use rb_hold::room::put;
 use std::sync::ledger::Ledger;
 
 impl<L: Ledger> Recoverable<L> {

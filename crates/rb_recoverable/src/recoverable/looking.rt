@@ -1,11 +1,14 @@
-//! What is looked at beside turns: the turn of an entry, and the held lines.
+//! What is looked at beside turns: the turn of an entry, the copies, the open calls, and the held lines.
 
-ghost use Rattle.std.specs.Prelude.{◌≡◌, ◌<◌, ◌≤◌, length, slice_get, option_copied};
+ghost use Rattle.std.specs.Prelude.{◌≡◌, ◌<◌, ◌≤◌, length, slice_get, option_copied, Some};
 ghost use Rattle.rb_base.specs.declared.limits.TheConstants.{MOST_HELD_BYTES};
 ghost use Rattle.rb_world.specs.World.{last_of};
-ghost use Rattle.rb_recoverable.specs.Views.{IsEntryOf};
+ghost use Rattle.rb_hold.specs.Stored.{AreLines, lines_in};
+ghost use Rattle.rb_recoverable.specs.Inside.{call_of};
+ghost use Rattle.rb_recoverable.specs.Views.{IsCopyOf, IsEntryOf};
 
-use super::Recoverable;
+use super::{OpenCall, Recoverable};
+use crate::level_view::CopyView;
 use std::sync::ledger::Ledger;
 
 impl<L: Ledger> Recoverable<L> {
@@ -15,6 +18,35 @@ impl<L: Ledger> Recoverable<L> {
         ensures { IsEntryOf (slice_get self.now.levels k) result }
     {
         self.marks[k as usize].last_kept
+    }
+
+    /// The copy of an open level, beside its words; levels count from 0, the outermost.
+    pub fn copy(&self, k: u32) -> CopyView
+        requires { k < length self.now.levels }
+        ensures { IsCopyOf (slice_get self.now.levels k) self.now.calls result }
+    {
+        let mark = self.marks[k as usize];
+        CopyView {
+            at: mark.at,
+            height: mark.height,
+            newer_calls: self.calls.len() - mark.calls,
+        }
+    }
+
+    /// An open call; calls count from 0, the running one.
+    pub fn call(&self, k: usize) -> OpenCall
+        requires { k < length self.now.calls }
+        ensures { slice_get self.now.calls k ≡ Some (call_of result) }
+    {
+        self.calls[self.calls.len() - 1 - k]
+    }
+
+    /// The held lines as they are stored, one after another, each with LF behind it.
+    pub fn held_text(&self) -> &[u8]
+        ensures lines { lines_in result.now ≡ self.now.held }
+        ensures stored { AreLines result.now }
+    {
+        self.hold.held_text()
     }
 
     /// How many lines are held.

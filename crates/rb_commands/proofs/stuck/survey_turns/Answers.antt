@@ -8,7 +8,7 @@ use Rattle.rb_code.specs.WordMachine.WordKind.{word_kind}
 use Rattle.rb_trace.specs.Naming.{naming}
 use Rattle.rb_stuck.specs.Programs.{word_standing_text}
 use Rattle.rb_stuck.specs.Stuck.{text_of}
-use Rattle.rb_commands.proofs.Ending.{put_done, put_stopped}
+use Rattle.rb_turns.proofs.Ending.{put_done, put_stopped}
 use Rattle.rb_commands.proofs.Loaded.{is_sound}
 use Rattle.rb_commands.proofs.Surveys.{named_after, named_later, text_after, waits_later}
 use Rattle.rb_commands.proofs.stuck.survey_turns.Goals as goal

@@ -6,7 +6,7 @@ use Rattle.rb_run.specs.Counting.{Counted, counts}
 use Rattle.rb_verdict.specs.Summary.{summary_of}
 use Rattle.rb_commands.specs.Products.{word_counts}
 use Rattle.rb_commands.proofs.Loaded.{is_sound}
-use Rattle.rb_commands.proofs.Ending.{put_done, put_stopped}
+use Rattle.rb_turns.proofs.Ending.{put_done, put_stopped}
 use Rattle.rb_commands.proofs.trial.try_turns.Goals as goal
 
 pub load-requires-clause-sound : goal.load-requires-clause-sound
