@@ -24,6 +24,9 @@ use Rattle.rb_asking.specs.Forms.{named_in}
 use Rattle.rb_asking.specs.Number.{trial_number}
 use Rattle.rb_asking.specs.CommandLine.{commands, program, asked_given, trial_given}
 
+abbrev rbl : Text
+rbl = codes "rbl"
+
 -- the program is one of which `clap` says all
 pub is_told : is_simple_and_free program ≡ true
 unfolding clap_on_literals
@@ -52,36 +55,36 @@ asks name words plain = cond-true (list_all is_plain_word words) (named_in forms
 run_agrees : (words : List Text) → list_all is_plain_word words ≡ true → Agrees (codes "run" ∷ words)
 run_agrees =
     two_agrees program asked_given asked_of (codes "run") (codes "SOURCE") (codes "SCHEDULE") Run refl refl refl refl
-    (λ words. fault-name (codes "rbl") commands (codes "run") words (leaf (codes "run") (codes "SOURCE" ∷ codes "SCHEDULE" ∷ [])) refl refl refl)
-    (λ words. subcommand-name (codes "rbl") commands (codes "run") words (leaf (codes "run") (codes "SOURCE" ∷ codes "SCHEDULE" ∷ [])) refl refl refl)
+    (λ words. fault-name rbl commands (codes "run") words (leaf (codes "run") (codes "SOURCE" ∷ codes "SCHEDULE" ∷ [])) refl refl refl)
+    (λ words. subcommand-name rbl commands (codes "run") words (leaf (codes "run") (codes "SOURCE" ∷ codes "SCHEDULE" ∷ [])) refl refl refl)
     (λ given. refl) (asks (codes "run"))
 
 survive_agrees : (words : List Text) → list_all is_plain_word words ≡ true → Agrees (codes "survive" ∷ words)
 survive_agrees =
     two_agrees program asked_given asked_of (codes "survive") (codes "SOURCE") (codes "SCHEDULE") Survive refl refl refl refl
-    (λ words. fault-name (codes "rbl") commands (codes "survive") words (leaf (codes "survive") (codes "SOURCE" ∷ codes "SCHEDULE" ∷ [])) refl refl refl)
-    (λ words. subcommand-name (codes "rbl") commands (codes "survive") words (leaf (codes "survive") (codes "SOURCE" ∷ codes "SCHEDULE" ∷ [])) refl refl refl)
+    (λ words. fault-name rbl commands (codes "survive") words (leaf (codes "survive") (codes "SOURCE" ∷ codes "SCHEDULE" ∷ [])) refl refl refl)
+    (λ words. subcommand-name rbl commands (codes "survive") words (leaf (codes "survive") (codes "SOURCE" ∷ codes "SCHEDULE" ∷ [])) refl refl refl)
     (λ given. refl) (asks (codes "survive"))
 
 plain_agrees : (words : List Text) → list_all is_plain_word words ≡ true → Agrees (codes "plain" ∷ words)
 plain_agrees =
     two_agrees program asked_given asked_of (codes "plain") (codes "SOURCE") (codes "RECORD") Plain refl refl refl refl
-    (λ words. fault-name (codes "rbl") commands (codes "plain") words (leaf (codes "plain") (codes "SOURCE" ∷ codes "RECORD" ∷ [])) refl refl refl)
-    (λ words. subcommand-name (codes "rbl") commands (codes "plain") words (leaf (codes "plain") (codes "SOURCE" ∷ codes "RECORD" ∷ [])) refl refl refl)
+    (λ words. fault-name rbl commands (codes "plain") words (leaf (codes "plain") (codes "SOURCE" ∷ codes "RECORD" ∷ [])) refl refl refl)
+    (λ words. subcommand-name rbl commands (codes "plain") words (leaf (codes "plain") (codes "SOURCE" ∷ codes "RECORD" ∷ [])) refl refl refl)
     (λ given. refl) (asks (codes "plain"))
 
 stuck_agrees : (words : List Text) → list_all is_plain_word words ≡ true → Agrees (codes "stuck" ∷ words)
 stuck_agrees =
     two_agrees program asked_given asked_of (codes "stuck") (codes "SOURCE") (codes "SCHEDULE") Stuck refl refl refl refl
-    (λ words. fault-name (codes "rbl") commands (codes "stuck") words (leaf (codes "stuck") (codes "SOURCE" ∷ codes "SCHEDULE" ∷ [])) refl refl refl)
-    (λ words. subcommand-name (codes "rbl") commands (codes "stuck") words (leaf (codes "stuck") (codes "SOURCE" ∷ codes "SCHEDULE" ∷ [])) refl refl refl)
+    (λ words. fault-name rbl commands (codes "stuck") words (leaf (codes "stuck") (codes "SOURCE" ∷ codes "SCHEDULE" ∷ [])) refl refl refl)
+    (λ words. subcommand-name rbl commands (codes "stuck") words (leaf (codes "stuck") (codes "SOURCE" ∷ codes "SCHEDULE" ∷ [])) refl refl refl)
     (λ given. refl) (asks (codes "stuck"))
 
 load_agrees : (words : List Text) → list_all is_plain_word words ≡ true → Agrees (codes "load" ∷ words)
 load_agrees =
     two_agrees program asked_given asked_of (codes "load") (codes "IMAGE") (codes "SCHEDULE") Load refl refl refl refl
-    (λ words. fault-name (codes "rbl") commands (codes "load") words (leaf (codes "load") (codes "IMAGE" ∷ codes "SCHEDULE" ∷ [])) refl refl refl)
-    (λ words. subcommand-name (codes "rbl") commands (codes "load") words (leaf (codes "load") (codes "IMAGE" ∷ codes "SCHEDULE" ∷ [])) refl refl refl)
+    (λ words. fault-name rbl commands (codes "load") words (leaf (codes "load") (codes "IMAGE" ∷ codes "SCHEDULE" ∷ [])) refl refl refl)
+    (λ words. subcommand-name rbl commands (codes "load") words (leaf (codes "load") (codes "IMAGE" ∷ codes "SCHEDULE" ∷ [])) refl refl refl)
     (λ given. refl) (asks (codes "load"))
 
 -- `session` takes three
@@ -89,44 +92,44 @@ session_agrees : (words : List Text) → list_all is_plain_word words ≡ true �
 session_agrees =
     let ids = codes "SOURCE" ∷ codes "SCHEDULE" ∷ codes "SESSION" ∷ [] in
     three_agrees program asked_given asked_of (codes "session") (codes "SOURCE") (codes "SCHEDULE") (codes "SESSION") Session refl refl refl refl refl refl refl refl refl
-    (λ words. fault-name (codes "rbl") commands (codes "session") words (leaf (codes "session") ids) refl refl refl)
-    (λ words. subcommand-name (codes "rbl") commands (codes "session") words (leaf (codes "session") ids) refl refl refl)
+    (λ words. fault-name rbl commands (codes "session") words (leaf (codes "session") ids) refl refl refl)
+    (λ words. subcommand-name rbl commands (codes "session") words (leaf (codes "session") ids) refl refl refl)
     (λ given. refl) (asks (codes "session"))
 
 -- `check`, `code`, `trial`, `domino` and `compile` take one
 check_agrees : (words : List Text) → list_all is_plain_word words ≡ true → Agrees (codes "check" ∷ words)
 check_agrees =
     one_agrees program asked_given asked_of (codes "check") (codes "SOURCE") (λ a. Some (Check a)) refl
-    (λ words. fault-name (codes "rbl") commands (codes "check") words (leaf (codes "check") (codes "SOURCE" ∷ [])) refl refl refl)
-    (λ words. subcommand-name (codes "rbl") commands (codes "check") words (leaf (codes "check") (codes "SOURCE" ∷ [])) refl refl refl)
+    (λ words. fault-name rbl commands (codes "check") words (leaf (codes "check") (codes "SOURCE" ∷ [])) refl refl refl)
+    (λ words. subcommand-name rbl commands (codes "check") words (leaf (codes "check") (codes "SOURCE" ∷ [])) refl refl refl)
     (λ given a e. ap (option_map Check) e) refl (λ a. asks (codes "check") (a ∷ [])) (λ a b more. asks (codes "check") (a ∷ b ∷ more))
 
 code_agrees : (words : List Text) → list_all is_plain_word words ≡ true → Agrees (codes "code" ∷ words)
 code_agrees =
     one_agrees program asked_given asked_of (codes "code") (codes "SOURCE") (λ a. Some (Code a)) refl
-    (λ words. fault-name (codes "rbl") commands (codes "code") words (leaf (codes "code") (codes "SOURCE" ∷ [])) refl refl refl)
-    (λ words. subcommand-name (codes "rbl") commands (codes "code") words (leaf (codes "code") (codes "SOURCE" ∷ [])) refl refl refl)
+    (λ words. fault-name rbl commands (codes "code") words (leaf (codes "code") (codes "SOURCE" ∷ [])) refl refl refl)
+    (λ words. subcommand-name rbl commands (codes "code") words (leaf (codes "code") (codes "SOURCE" ∷ [])) refl refl refl)
     (λ given a e. ap (option_map Code) e) refl (λ a. asks (codes "code") (a ∷ [])) (λ a b more. asks (codes "code") (a ∷ b ∷ more))
 
 trial_agrees : (words : List Text) → list_all is_plain_word words ≡ true → Agrees (codes "trial" ∷ words)
 trial_agrees =
     one_agrees program asked_given asked_of (codes "trial") (codes "NUMBER") (λ a. option_map Trial (trial_number a)) refl
-    (λ words. fault-name (codes "rbl") commands (codes "trial") words (leaf (codes "trial") (codes "NUMBER" ∷ [])) refl refl refl)
-    (λ words. subcommand-name (codes "rbl") commands (codes "trial") words (leaf (codes "trial") (codes "NUMBER" ∷ [])) refl refl refl)
+    (λ words. fault-name rbl commands (codes "trial") words (leaf (codes "trial") (codes "NUMBER" ∷ [])) refl refl refl)
+    (λ words. subcommand-name rbl commands (codes "trial") words (leaf (codes "trial") (codes "NUMBER" ∷ [])) refl refl refl)
     (λ given a e. ap trial_given e) refl (λ a. asks (codes "trial") (a ∷ [])) (λ a b more. asks (codes "trial") (a ∷ b ∷ more))
 
 domino_agrees : (words : List Text) → list_all is_plain_word words ≡ true → Agrees (codes "domino" ∷ words)
 domino_agrees =
     one_agrees program asked_given asked_of (codes "domino") (codes "HISTORY") (λ a. Some (Domino a)) refl
-    (λ words. fault-name (codes "rbl") commands (codes "domino") words (leaf (codes "domino") (codes "HISTORY" ∷ [])) refl refl refl)
-    (λ words. subcommand-name (codes "rbl") commands (codes "domino") words (leaf (codes "domino") (codes "HISTORY" ∷ [])) refl refl refl)
+    (λ words. fault-name rbl commands (codes "domino") words (leaf (codes "domino") (codes "HISTORY" ∷ [])) refl refl refl)
+    (λ words. subcommand-name rbl commands (codes "domino") words (leaf (codes "domino") (codes "HISTORY" ∷ [])) refl refl refl)
     (λ given a e. ap (option_map Domino) e) refl (λ a. asks (codes "domino") (a ∷ [])) (λ a b more. asks (codes "domino") (a ∷ b ∷ more))
 
 compile_agrees : (words : List Text) → list_all is_plain_word words ≡ true → Agrees (codes "compile" ∷ words)
 compile_agrees =
     one_agrees program asked_given asked_of (codes "compile") (codes "SOURCE") (λ a. Some (Compile a)) refl
-    (λ words. fault-name (codes "rbl") commands (codes "compile") words (leaf (codes "compile") (codes "SOURCE" ∷ [])) refl refl refl)
-    (λ words. subcommand-name (codes "rbl") commands (codes "compile") words (leaf (codes "compile") (codes "SOURCE" ∷ [])) refl refl refl)
+    (λ words. fault-name rbl commands (codes "compile") words (leaf (codes "compile") (codes "SOURCE" ∷ [])) refl refl refl)
+    (λ words. subcommand-name rbl commands (codes "compile") words (leaf (codes "compile") (codes "SOURCE" ∷ [])) refl refl refl)
     (λ given a e. ap (option_map Compile) e) refl (λ a. asks (codes "compile") (a ∷ [])) (λ a b more. asks (codes "compile") (a ∷ b ∷ more))
 
 -- which command's name a word is
@@ -149,8 +152,8 @@ module _ (name : Text) (words : List Text) (plain : list_all is_plain_word (name
   unnamed : AreNamed name false false false false false false false false false false false → Agrees (name ∷ words)
   unnamed are =
       let parts = and_parts (is_plain_word name) _ plain in
-      let no_name : subcommand_met (names (codes "rbl") commands) idle name ≡ None = rw (are.run, are.survive, are.plain, are.check, are.code, are.trial, are.session, are.domino, are.stuck, are.compile, are.load) refl in
-      refused (λ none. let both : [] ≡ UnknownArgument ∷ InvalidSubcommand ∷ [] = sym none ∙ other_word (codes "rbl") commands name words parts.0 no_name in cc)
+      let no_name : subcommand_met (names rbl commands) idle name ≡ None = rw (are.run, are.survive, are.plain, are.check, are.code, are.trial, are.session, are.domino, are.stuck, are.compile, are.load) refl in
+      refused (λ none. let both : [] ≡ UnknownArgument ∷ InvalidSubcommand ∷ [] = sym none ∙ other_word rbl commands name words parts.0 no_name in cc)
       (asks name words parts.1 ∙ rw (are.run, are.survive, are.plain, are.check, are.code, are.trial, are.session, are.domino, are.stuck, are.compile, are.load) refl)
 
   -- the first word is a command's name, or none

@@ -7,5 +7,5 @@ pub mod number;
 pub mod words;
 
 pub use asking::{Asked, asked_for};
-pub use line::{and_command, none_unless_memory, program_alone};
+pub use line::{none_unless_memory, program_alone, with_commands};
 pub use words::Words;

@@ -2,12 +2,13 @@
 ghost use Rattle.std.specs.Prelude.{◌≡◌, IfOk, OnErr, None, map};
 ghost use Rattle.clap.specs.Words.{app_of, with_subcommand};
 ghost use Rattle.rb_words.specs.Leaf.{command_with};
-ghost use Rattle.rb_asking.specs.Program.{program_alone};
+ghost use Rattle.std.specs.List.{fold};
+ghost use Rattle.rb_asking.specs.Program.{program_alone, shape_of};
 
-use rb_words::command_with;
 use clap::Command;
 use clap::error::ErrorKind;
 use rb_base::Memory;
+use rb_words::command_with;
 use std::alloc::{AllocError, Global};
 
 /// The program of this name, of which one command has to be named; `help` is none.
@@ -21,10 +22,24 @@ pub fn program_alone<'a>(alloc: Global, name: &'a str) -> Command<'a>
         .subcommand_required(true)
 }
 
-/// The program with a command more, which takes as many words as these, which name them.
-///
-/// It is a call of its own, as the program is let go where memory is wanting.
-pub fn and_command<'a>(
+/// The program with these commands more, in their order: each has its name, and takes as many words as are listed with it, which name them.
+pub fn with_commands<'a>(
+    alloc: Global,
+    program: Command<'a>,
+    commands: &[(&'a str, &[&'a str])],
+) -> Result<Command<'a>, AllocError>
+    ensures { IfOk result (λ more. app_of more ≡ fold with_subcommand (app_of program.entry) (map shape_of commands.now)) }
+{
+    let mut program = program;
+    for command in commands {
+        let (name, words) = *command;
+        program = and_command(alloc, program, name, words)?;
+    }
+    Ok(program)
+}
+
+// The program with one. A call of its own, as the program is let go where memory is wanting.
+fn and_command<'a>(
     alloc: Global,
     program: Command<'a>,
     name: &'a str,

@@ -16,8 +16,8 @@ use crate::request::Request;
 use crate::saying::Saying;
 use crate::session::Session;
 use crate::trial::Trial;
-use rb_base::Memory;
 use rb_asking::{Asked, Words, asked_for};
+use rb_base::Memory;
 use std::alloc::Global;
 
 /// What is carried out for these words: what they ask for, or else the line that shows the commands. `Memory` may come for any words.
@@ -44,25 +44,21 @@ fn request_with(given: Asked<'_>) -> Request<'_>
     ensures { asked result ≡ request_with (plainly given) }
 {
     match given {
-        Asked::Run { source, schedule } => over(Product::Text, source, schedule),
-        Asked::Survive { source, schedule } => over(Product::Survivors, source, schedule),
-        Asked::Plain { source, kept } => Request::Plain(Plain { source, kept }),
-        Asked::Check { source } => Request::Check(Check { source }),
-        Asked::Code { source } => Request::Code(Code { source }),
-        Asked::Trial { number } => Request::Trial(Trial { number }),
-        Asked::Compile { source } => Request::Compile(Compile { source }),
-        Asked::Load { image, schedule } => Request::Load(Load { image, schedule }),
-        Asked::Session {
-            source,
-            schedule,
-            session,
-        } => Request::Session(Session {
+        Asked::Run(source, schedule) => over(Product::Text, source, schedule),
+        Asked::Survive(source, schedule) => over(Product::Survivors, source, schedule),
+        Asked::Plain(source, kept) => Request::Plain(Plain { source, kept }),
+        Asked::Check(source) => Request::Check(Check { source }),
+        Asked::Code(source) => Request::Code(Code { source }),
+        Asked::Trial(number) => Request::Trial(Trial { number }),
+        Asked::Compile(source) => Request::Compile(Compile { source }),
+        Asked::Load(image, schedule) => Request::Load(Load { image, schedule }),
+        Asked::Session(source, schedule, session) => Request::Session(Session {
             source,
             schedule,
             session,
         }),
-        Asked::Domino { history } => Request::Domino(Domino { history }),
-        Asked::Stuck { source, schedule } => over(Product::Standing, source, schedule),
+        Asked::Domino(history) => Request::Domino(Domino { history }),
+        Asked::Stuck(source, schedule) => over(Product::Standing, source, schedule),
     }
 }
 
