@@ -25,9 +25,9 @@ use Rattle.rb_commands.specs.declared.why.Why.TheVariants as why
 
 -- How a call ends that writes a text and takes memory while it writes: where memory was wanting, nothing was written, or a prefix of the text.
 abbrev pub PutsFrontOrMemory : List ℕ → Option (List ℕ) → Option (List ℕ) → Faults → Faults → Result (Unit {0}) (Unwritten Why) → Type 0
-PutsFrontOrMemory text old new before after (Ok done) = PutsOrMemory {Why} text old new before after (Ok done)
+PutsFrontOrMemory text old new before after (Ok done) = PutsOrMemory {W = Why} text old new before after (Ok done)
 PutsFrontOrMemory text old new before after (Err (unwritten.Refused fault known)) = ⊥
-PutsFrontOrMemory text old new before after (Err unwritten.Fault) = PutsOrMemory {Why} text old new before after (Err unwritten.Fault)
+PutsFrontOrMemory text old new before after (Err unwritten.Fault) = PutsOrMemory {W = Why} text old new before after (Err unwritten.Fault)
 PutsFrontOrMemory text old new before after (Err unwritten.Memory) =
     ((new ≡ old) × (after ≡ before)) ⊎ (WrotePart old new text × (after.count ≡ before.count))
 

@@ -21,7 +21,7 @@ use std::sync::ledger::{Blank, Ledger};
 
 /// Runs sound code over turns, and writes the text of the run. The ledger counts steps, which contracts alone see.
 #[inline(always)]
-pub fn run_turns<W, S: Sink, L: Ledger>(
+pub fn run_turns<W: Drop, S: Sink, L: Ledger>(
     alloc: Global,
     code: &Code,
     nested: &Nested,

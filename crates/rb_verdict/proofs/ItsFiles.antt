@@ -5,7 +5,7 @@ use Rattle.rb_asking.specs.Commands as given
 use Rattle.rb_verdict.specs.Words.{HasItsFiles, request_with, usage_line, usage_of}
 use Rattle.rb_verdict.specs.Laws.{RequestsHaveTheirFiles}
 
-asked : (one : Asked) → HasItsFiles (request_with asked)
+asked : (one : Asked) → HasItsFiles (request_with one)
 asked (given.Run source schedule) = refl
 asked (given.Survive source schedule) = refl
 asked (given.Plain source kept) = refl

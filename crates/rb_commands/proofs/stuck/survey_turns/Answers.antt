@@ -47,7 +47,7 @@ returns-in-Ok-write_standing g c =
     (text_after c.requires.prepared.0 prepared c.requires.prepared.1 _ turns c.count.new.machine led after
     c.survey-standing.result c.survey-standing.ensures.standing c.survey-standing.ensures.after)
     (g.S.Sink.written c.args.out.now) (g.S.Sink.written c.write_standing.new.out) (g.S.Sink.faults c.args.out.now)
-    (g.S.Sink.faults c.write_standing.new.out) tt tt c.in-Ok-write_standing.ensures
+    (g.S.Sink.faults c.write_standing.new.out) tt c.in-Ok-write_standing.ensures
 
 pub returns-in-Ok : goal.returns-in-Ok
 returns-in-Ok g c =

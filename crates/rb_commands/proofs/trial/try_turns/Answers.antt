@@ -24,7 +24,7 @@ returns-in-Ok-put_summary g c =
     let turns = c.args.schedule.all in
     let counted : counts c.count-counts.result ≡ word_counts (code prepared.code) (memberships (opening prepared.nested)) turns =
     c.count-counts.ensures.counts ∙ ap (λ (m : Seen). word_counts m.code m.groups turns) c.in-Ok.ensures in
-    put_done _ _ (ap₂ (summary_of n) c.turns-turns.ensures.all counted) _ _ _ _ _ tt c.in-Ok-put_summary.ensures
+    put_done _ _ (ap₂ (summary_of n) c.turns-turns.ensures.all counted) _ _ _ _ _ c.in-Ok-put_summary.ensures
 
 pub returns-in-Ok : goal.returns-in-Ok
 returns-in-Ok g c =
