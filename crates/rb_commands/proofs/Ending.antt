@@ -1,5 +1,5 @@
 -- How a command ends once it has written its text, or as far as it came.
-use Rattle.std.proofs.Common.{◌≡◌, ◌⊎◌, ℕ, List, Option, Result, Ok, Err, inl, inr}
+use Rattle.std.proofs.Common.{ℕ, List, Option, Result, Ok, Err, inl, inr}
 use Rattle.rb_outside.specs.Outside.{Faults}
 use Rattle.rb_hall.specs.declared.fault.Fault.{Fault}
 use Rattle.rb_hall.specs.declared.command.Unwritten.{Unwritten}

@@ -1,5 +1,5 @@
 -- How a command ends whose text another crate writes, and who takes memory for it.
-use Rattle.std.proofs.Common.{◌≡◌, ◌⊎◌, ℕ, List, Option, Result, Ok, Err, inl, inr, sym, subst}
+use Rattle.std.proofs.Common.{◌≡◌, ℕ, List, Option, Result, Ok, Err, inr, sym, subst}
 use Rattle.rb_outside.specs.Outside.{Faults}
 use Rattle.rb_run.specs.Surviving.{Survives}
 use Rattle.rb_run.specs.declared.surviving.Ended.{Ended}

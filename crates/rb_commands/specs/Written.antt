@@ -17,7 +17,7 @@ use Rattle.rb_run.specs.declared.surviving.Ended.TheVariants as ended
 use Rattle.rb_back.specs.declared.showing.Stopped.{Stopped}
 use Rattle.rb_back.specs.declared.showing.Stopped.TheVariants as stopped
 use Rattle.rb_turns.specs.Written.{PutsOrMemory}
-use Rattle.rb_verdict.specs.Judging.{OverSchedule, OverTurns, PlainGoesOn, SessionGoesOn}
+use Rattle.rb_verdict.specs.Judging.{OverTurns, PlainGoesOn, SessionGoesOn}
 use Rattle.rb_verdict.specs.Texts.{names_of}
 use Rattle.rb_commands.specs.Explained.{IsStuckAt, NamesOfSource}
 use Rattle.rb_commands.specs.declared.why.Why.{Why}

@@ -41,7 +41,7 @@ pub fn usage() -> Request<'static>
 
 // What is carried out for a command with the words that it was given.
 fn request_with(given: Asked<'_>) -> Request<'_>
-    ensures { asked result ≡ request_with (plainly given) }
+    ensures { asked result ≡ request_with (plainly given.entry) }
 {
     match given {
         Asked::Run(source, schedule) => over(Product::Text, source, schedule),

@@ -1,8 +1,8 @@
-use Rattle.std.proofs.Common.{◌≡◌, ℕ, false, length, sym, ap, ap₂, ◌∙◌}
+use Rattle.std.proofs.Common.{◌≡◌, false, sym, ap, ap₂, ◌∙◌}
 use Rattle.rb_code.specs.Instructions.Plain.{code}
 use Rattle.rb_conv.specs.Conversations.{memberships, opening}
 use Rattle.rb_machine.specs.Machine.{Seen, opening_seen}
-use Rattle.rb_run.specs.Counting.{Counted, counts}
+use Rattle.rb_run.specs.Counting.{counts}
 use Rattle.rb_verdict.specs.Summary.{summary_of}
 use Rattle.rb_commands.specs.Products.{word_counts}
 use Rattle.rb_commands.proofs.Loaded.{is_sound}
