@@ -14,10 +14,10 @@ use crate::request::Wish;
 use crate::trace::Trace;
 use clap::error::ErrorKind;
 use clap::{ArgMatches, Command};
+use rb_asking::Words;
 use rb_base::Memory;
 use rb_commands::saying::Saying;
 use rb_reasons::reason_of;
-use rb_asking::Words;
 use rb_words::{are_plain, command_with};
 use std::alloc::{AllocError, Global};
 

@@ -6,9 +6,9 @@ ghost use Rattle.rb_web.specs.Ending.{EndsInMemory, EndsOf, quiet, scene_in};
 
 use crate::room::Room;
 use crate::texts::Texts;
+use rb_asking::Words;
 use rb_base::Memory;
 use rb_tell::{Left, Telling};
-use rb_asking::Words;
 use std::alloc::Global;
 
 /// One of the two programs.
