@@ -1,13 +1,13 @@
 -- How a command ends once it has written its text, or as far as it came.
-use Rattle.std.proofs.Common.{◌≡◌, ◌⊎◌, ℕ, List, Option, Result, Ok, Err, inl, inr, subst}
+use Rattle.std.proofs.Common.{ℕ, List, Option, Result, Ok, Err, inl, inr}
 use Rattle.rb_outside.specs.Outside.{Faults}
-use Rattle.rb_outside.specs.Puts.{Puts}
 use Rattle.rb_hall.specs.declared.fault.Fault.{Fault}
 use Rattle.rb_hall.specs.declared.command.Unwritten.{Unwritten}
 use Rattle.rb_hall.specs.declared.command.Unwritten.TheVariants as unwritten
 use Rattle.rb_hall.specs.Judgement.{Judgement, Writes}
 use Rattle.rb_hall.specs.Ends.{WriteEnds}
-use Rattle.rb_commands.specs.Written.{PutsFrontOrMemory, PutsOrMemory}
+use Rattle.rb_turns.specs.Written.{PutsOrMemory}
+use Rattle.rb_commands.specs.Written.{PutsFrontOrMemory}
 use Rattle.rb_commands.specs.declared.why.Why.{Why}
 
 module _ (judged : Judgement → Type 0) (known : Fault → Why → Type 0) (takes : Type 0) (text : List ℕ) (is : judged (Writes text))
@@ -28,16 +28,3 @@ module _ (judged : Judgement → Type 0) (known : Fault → Why → Type 0) (tak
   front_ends may (Err unwritten.Fault) (part, failed) = (text, is, part, failed)
   front_ends may (Err unwritten.Memory) (inl same) = inl same
   front_ends may (Err unwritten.Memory) (inr (part, quiet)) = inr (may, (text, is, part, quiet))
-
-module _ (text meant : List ℕ) (same : text ≡ meant) (old new : Option (List ℕ)) (before after : Faults) where
-  -- a text was put, all of it
-  pub put_done : {T E : Type 0} (v : T) (done : Unit {0}) → Puts {T = T} {E = E} text old new before after (Ok v)
-      → PutsOrMemory meant old new before after (Ok done)
-  put_done {T} {E} v done puts =
-      let there = subst (λ bytes. Puts {T = T} {E = E} bytes old new before after (Ok v)) same puts in (there.ok, there.quiet)
-
-  -- or a put of it failed
-  pub put_stopped : {T E : Type 0} (e : E) → Puts {T = T} {E = E} text old new before after (Err e)
-      → PutsOrMemory meant old new before after (Err unwritten.Fault)
-  put_stopped {T} {E} e puts =
-      let there = subst (λ bytes. Puts {T = T} {E = E} bytes old new before after (Err e)) same puts in (there.err, there.failed)

@@ -1,5 +1,5 @@
 -- How a command ends whose text another crate writes, and who takes memory for it.
-use Rattle.std.proofs.Common.{◌≡◌, ◌⊎◌, ℕ, List, Option, Result, Ok, Err, inl, inr, sym, subst}
+use Rattle.std.proofs.Common.{◌≡◌, ℕ, List, Option, Result, Ok, Err, inr, sym, subst}
 use Rattle.rb_outside.specs.Outside.{Faults}
 use Rattle.rb_run.specs.Surviving.{Survives}
 use Rattle.rb_run.specs.declared.surviving.Ended.{Ended}
@@ -8,7 +8,8 @@ use Rattle.rb_back.specs.Showing.{Shows}
 use Rattle.rb_back.specs.declared.showing.Stopped.{Stopped}
 use Rattle.rb_back.specs.declared.showing.Stopped.TheVariants as stopped
 use Rattle.rb_hall.specs.declared.command.Unwritten.{Unwritten}
-use Rattle.rb_commands.specs.Written.{PutsFrontOrMemory, PutsOrMemory, unwritten_of_following, unwritten_of_survival}
+use Rattle.rb_turns.specs.Written.{PutsOrMemory}
+use Rattle.rb_commands.specs.Written.{PutsFrontOrMemory, unwritten_of_following, unwritten_of_survival}
 use Rattle.rb_commands.specs.declared.why.Why.{Why}
 
 module _ (text meant : List ℕ) (same : text ≡ meant) where

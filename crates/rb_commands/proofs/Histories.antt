@@ -1,5 +1,5 @@
 -- `domino`: what is made of a history.
-use Rattle.std.proofs.Common.{◌≡◌, ℕ, List, [], ◌∷◌, sym, subst, refl}
+use Rattle.std.proofs.Common.{ℕ, List, sym, subst, refl}
 use Rattle.rb_domino.specs.History.{Story}
 use Rattle.rb_domino.specs.Recovery.{outcome_of}
 use Rattle.rb_domino.specs.Written.{outcome_text}

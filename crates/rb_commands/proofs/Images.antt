@@ -1,11 +1,10 @@
 -- A compiled image: when its program may be run, and what `load` makes of it and of the schedule after it.
-use Rattle.std.proofs.Common.{◌≡◌, ℕ, ◌+◌, ◌<◌, ◌≤◌, List, [], ◌∷◌, ◌++◌, length, map, slice_get, Some, Option, Bor, Result, Ok, Err, refl, sym, ap, subst, ◌∙◌, arith}
+use Rattle.std.proofs.Common.{◌≡◌, ℕ, ◌+◌, ◌≤◌, List, [], ◌∷◌, ◌++◌, length, map, Option, Bor, Result, Ok, Err, refl, sym, ap, subst, ◌∙◌, arith}
 use Rattle.std.specs.List.{AllByRecursion, AllZip}
 use Rattle.std.proofs.lemmas.Simd.{map-map}
 use Rattle.rb_base.specs.Naming.{process_names}
 use Rattle.rb_base.specs.declared.fault.TextFault.{TextFault}
 use Rattle.rb_base.specs.declared.limits.TheConstants.{MOST_BYTES}
-use Rattle.rb_base.specs.declared.names.Names.{Names}
 use Rattle.rb_base.specs.declared.names.Nested.{Nested}
 use Rattle.rb_base.specs.declared.names.ProcessNames.{ProcessNames}
 use Rattle.rb_base.specs.declared.names.Variable.{Variable}
@@ -32,9 +31,9 @@ use Rattle.rb_hall.specs.declared.command.Unwritten.{Unwritten}
 use Rattle.rb_hall.specs.declared.fault.Fault.{Fault}
 use Rattle.rb_hall.specs.declared.fault.Fault.TheVariants as of
 use Rattle.rb_hall.specs.Ends.{HoldsOn, IfRefused, Refuses, WriteEnds}
-use Rattle.rb_hall.specs.Judgement.{Judgement, ReadsOn, RefusedWith, Wants, Writes}
+use Rattle.rb_hall.specs.Judgement.{ReadsOn, RefusedWith, Wants, Writes}
 use Rattle.rb_hall.proofs.Ends.{ends_as}
-use Rattle.rb_verdict.specs.Judging.{Judges, OverTurns, at_first, first_accepted, first_refused, reads_schedule, runs, schedule_refused}
+use Rattle.rb_verdict.specs.Judging.{Judges, OverTurns, first_accepted, first_refused, reads_schedule, runs, schedule_refused}
 use Rattle.rb_verdict.specs.Programs.{MayRun, Program, VariablesLie, names_in, program_of}
 use Rattle.rb_verdict.specs.Texts.{ImageHolds, ImageRefused, bad_schedule, unsound_image}
 use Rattle.rb_verdict.specs.Words.{Load, image_named, text_named}

@@ -1,5 +1,5 @@
 -- What a request that is done has written says of the texts that it has read.
-use Rattle.std.proofs.Common.{◌≡◌, ℕ, List, Option, None, Some, refl, sym, subst, ◌∙◌}
+use Rattle.std.proofs.Common.{◌≡◌, ℕ, List, Option, refl, sym, subst, ◌∙◌}
 use Rattle.rb_outside.specs.Outside.{File, Start}
 use Rattle.rb_hall.specs.Answers.{HasReadIn, Scene}
 use Rattle.rb_hall.specs.Ending.{EndsBehind}

@@ -1,5 +1,3 @@
-pub mod CommandLine
-pub mod Digits
 pub mod Ending
 pub mod Histories
 pub mod Loaded

@@ -1,5 +1,5 @@
 -- `code` and `compile`: what is written of the program of a source.
-use Rattle.std.proofs.Common.{◌≡◌, ℕ, ◌≤◌, List, [], ◌∷◌, length, refl, sym, subst}
+use Rattle.std.proofs.Common.{ℕ, ◌≤◌, List, [], length, refl, sym, subst}
 use Rattle.rb_base.specs.declared.limits.TheConstants.{MOST_BYTES}
 use Rattle.rb_syntax.specs.Tree.{Tree}
 use Rattle.rb_nest.specs.Groups.{alternates, memberships}

@@ -1,17 +1,15 @@
 -- What `plain` makes of a source and a record for it.
-use Rattle.std.proofs.Common.{◌≡◌, ℕ, ◌<◌, ◌≤◌, List, [], ◌∷◌, ◌++◌, length, map, vec_len, Option, Some, Bor, inl, inr, Result, Ok, Err, refl, sym, ap, subst, ◌∙◌, arith}
+use Rattle.std.proofs.Common.{◌≡◌, ℕ, List, [], ◌∷◌, ◌++◌, map, vec_len, Option, Some, inl, inr, Result, Ok, Err, refl, sym, ap, subst, ◌∙◌, arith}
 use Rattle.std.proofs.lemmas.Simd.{map-map}
 use Rattle.rb_base.specs.Naming.{process_names}
 use Rattle.rb_base.specs.declared.fault.TextFault.{TextFault}
 use Rattle.rb_base.specs.declared.kept.Kept.{Kept}
-use Rattle.rb_base.specs.declared.names.Names.{Names}
 use Rattle.rb_nest.specs.Groups.{membership}
 use Rattle.rb_outside.specs.Outside.{Faults}
 use Rattle.rb_syntax.specs.Plain.{tree as tree_of}
 use Rattle.rb_syntax.specs.Tree.{Tree}
 use Rattle.rb_world.specs.Kind.{Membership}
 use Rattle.rb_world.specs.Plain.{PlainEnd, Ended, StuckAt}
-use Rattle.rb_world.proofs.ListFacts.{none_some, some_same}
 use Rattle.rb_meaning.specs.PlainRun.{EntryPoint, plain_text, plain_text_at}
 use Rattle.rb_meaning.specs.State.{State}
 use Rattle.rb_meaning.specs.Step.{Nothing}
@@ -32,12 +30,12 @@ use Rattle.rb_hall.specs.declared.command.Unwritten.TheVariants as unwritten
 use Rattle.rb_hall.specs.declared.fault.Fault.{Fault}
 use Rattle.rb_hall.specs.declared.fault.Fault.TheVariants as of
 use Rattle.rb_hall.specs.Ends.{HoldsOn, IfRefused, Refuses, WriteEnds}
-use Rattle.rb_hall.specs.Judgement.{Judgement, ReadsOn, RefusedWith, Wants, Writes}
+use Rattle.rb_hall.specs.Judgement.{ReadsOn, RefusedWith, Wants}
 use Rattle.rb_hall.proofs.Ends.{ends_as}
-use Rattle.rb_verdict.specs.Judging.{Judges, PlainGoesOn, at_first, first_accepted, first_refused, plays, reads_record, record_refused}
+use Rattle.rb_verdict.specs.Judging.{Judges, PlainGoesOn, first_accepted, first_refused, plays, reads_record, record_refused}
 use Rattle.rb_verdict.specs.Texts.{SourceRefused, bad_record, names_of, stuck_record}
 use Rattle.rb_verdict.specs.Words.{Replay, text_named}
-use Rattle.rb_commands.specs.Explained.{ExplainsRecord, IsStuckAt, NamesOfSource, of_record, of_source, of_stuck}
+use Rattle.rb_commands.specs.Explained.{ExplainsRecord, NamesOfSource, of_record, of_source, of_stuck}
 use Rattle.rb_commands.specs.Held.{HoldsRecord}
 use Rattle.rb_commands.specs.Written.{EndsForStuck, EndsPlain, KnowsStuck}
 use Rattle.rb_commands.specs.declared.plain.Played.{Played}

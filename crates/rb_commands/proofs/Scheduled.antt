@@ -1,5 +1,5 @@
 -- What `run`, `survive` and `stuck` make of a source and a schedule for it.
-use Rattle.std.proofs.Common.{◌≡◌, ℕ, ◌<◌, ◌≤◌, List, [], ◌∷◌, ◌++◌, length, map, Option, Bor, Result, Ok, Err, refl, sym, ap, subst, arith, ◌∙◌}
+use Rattle.std.proofs.Common.{◌≡◌, ℕ, ◌≤◌, List, [], ◌∷◌, ◌++◌, length, map, Option, Bor, Result, Ok, Err, refl, sym, ap, subst, arith, ◌∙◌}
 use Rattle.std.proofs.lemmas.Simd.{map-map}
 use Rattle.rb_base.specs.Naming.{process_names}
 use Rattle.rb_base.specs.declared.fault.TextFault.{TextFault}

@@ -1,10 +1,9 @@
 -- What `session` makes of a source, a schedule for it and a session.
-use Rattle.std.proofs.Common.{◌≡◌, ℕ, ◌<◌, ◌≤◌, List, [], ◌∷◌, ◌++◌, length, Option, Bor, IfOk, Result, Ok, Err, refl, sym, ap, subst, ◌∙◌, arith}
+use Rattle.std.proofs.Common.{◌≡◌, ℕ, ◌≤◌, List, [], ◌∷◌, ◌++◌, length, Option, Bor, IfOk, Result, Ok, Err, refl, sym, ap, subst, ◌∙◌, arith}
 use Rattle.rb_base.specs.Naming.{process_names}
 use Rattle.rb_base.specs.declared.fault.TextFault.{TextFault}
 use Rattle.rb_base.specs.declared.limits.TheConstants.{MOST_BYTES}
 use Rattle.rb_outside.specs.Outside.{Faults}
-use Rattle.rb_syntax.specs.Tree.{Tree}
 use Rattle.rb_code.specs.Instructions.Plain.{code}
 use Rattle.rb_conv.specs.Conversations.{memberships, opening}
 use Rattle.rb_sched.specs.Schedule.{schedule_of}
@@ -12,20 +11,20 @@ use Rattle.rb_prepare.specs.Prepared.{IsPrepared}
 use Rattle.rb_prepare.specs.declared.preparing.Prepared.{Prepared}
 use Rattle.rb_back.specs.declared.order.Order.{Order}
 use Rattle.rb_back.specs.Script.{script_of}
-use Rattle.rb_back.specs.Shown.{session_text, tree_session_text}
+use Rattle.rb_back.specs.Shown.{session_text}
 use Rattle.rb_hall.specs.declared.command.Stop.{Stop}
 use Rattle.rb_hall.specs.declared.command.Stop.TheVariants as stop
 use Rattle.rb_hall.specs.declared.command.Unwritten.{Unwritten}
 use Rattle.rb_hall.specs.declared.fault.Fault.{Fault}
 use Rattle.rb_hall.specs.declared.fault.Fault.TheVariants as of
 use Rattle.rb_hall.specs.Ends.{HoldsOn, IfRefused, Refuses, WriteEnds}
-use Rattle.rb_hall.specs.Judgement.{Judgement, ReadsOn, RefusedWith, Wants, Writes}
+use Rattle.rb_hall.specs.Judgement.{ReadsOn, RefusedWith, Wants, Writes}
 use Rattle.rb_hall.proofs.Ends.{ends_as}
-use Rattle.rb_verdict.specs.Judging.{Judges, SessionGoesOn, at_first, first_accepted, first_refused, reads_session, reads_turns, session_refused, shows, turns_refused}
+use Rattle.rb_verdict.specs.Judging.{Judges, SessionGoesOn, first_accepted, first_refused, reads_session, reads_turns, session_refused, shows, turns_refused}
 use Rattle.rb_verdict.specs.Texts.{ListsTurns, SourceRefused, bad_schedule, bad_session, names_of}
 use Rattle.rb_verdict.specs.Words.{Session, text_named}
 use Rattle.rb_commands.specs.Explained.{ExplainsProgram, NamesOfSource, of_program, of_text}
-use Rattle.rb_commands.specs.Held.{HasTurns, HoldsSession, TakesTurns}
+use Rattle.rb_commands.specs.Held.{HoldsSession, TakesTurns}
 use Rattle.rb_commands.specs.Written.{EndsSession, KnowsNames}
 use Rattle.rb_commands.specs.declared.session.Shown.{Shown}
 use Rattle.rb_commands.specs.declared.session.Shown.TheVariants as shown

@@ -1,10 +1,10 @@
 -- Commands over one text: what is held of it, and what is made of it.
-use Rattle.std.proofs.Common.{◌≡◌, ℕ, ◌<◌, ◌≤◌, List, [], ◌∷◌, ◌++◌, length, IfOk, Result, Ok, Err, refl, sym, subst, arith}
+use Rattle.std.proofs.Common.{◌≡◌, ℕ, List, [], ◌∷◌, ◌++◌, length, IfOk, Result, Ok, Err, sym, subst, arith}
 use Rattle.rb_syntax.specs.Tree.{Tree}
 use Rattle.rb_hall.specs.declared.command.Stop.{Stop}
 use Rattle.rb_hall.specs.declared.command.Stop.TheVariants as stop
 use Rattle.rb_hall.specs.declared.fault.Fault.{Fault}
-use Rattle.rb_hall.specs.Judgement.{Judgement, Judging, RefusedWith, Writes}
+use Rattle.rb_hall.specs.Judgement.{Judgement, Judging, Writes}
 use Rattle.rb_hall.specs.Ends.{HoldsOn, IfRefused, Refuses}
 use Rattle.rb_verdict.specs.Words.{text_named}
 use Rattle.rb_verdict.specs.Texts.{SourceRefused}

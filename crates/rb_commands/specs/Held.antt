@@ -11,8 +11,6 @@ use Rattle.rb_domino.specs.History.{history_of}
 use Rattle.rb_record.specs.Record.{record_of}
 use Rattle.rb_record.specs.Recorded.{AreKept}
 use Rattle.rb_sched.specs.Schedule.{schedule_of}
-use Rattle.rb_hall.specs.declared.fault.Fault.{Fault}
-use Rattle.rb_hall.specs.declared.fault.Fault.TheVariants as of
 use Rattle.rb_hall.specs.declared.command.Stop.{Stop}
 use Rattle.rb_hall.specs.declared.command.Stop.TheVariants as stop
 use Rattle.rb_hall.specs.Ends.{IfRefused, Refuses}

@@ -1,5 +1,4 @@
 pub mod Asked
-pub mod CommandLine
 pub mod Explained
 pub mod Held
 pub mod Products

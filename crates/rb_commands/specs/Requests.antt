@@ -8,7 +8,7 @@ use Rattle.rb_hall.specs.declared.outcome.Outcome.{Outcome}
 use Rattle.rb_hall.specs.declared.outcome.Outcome.TheVariants as out
 use Rattle.rb_verdict.specs.Judging.{JudgesWithin, TakesWhileWriting}
 use Rattle.rb_verdict.specs.Lasting.{Lasts}
-use Rattle.rb_verdict.specs.Words.{Command, Run, Survive, Replay, Check, ListCode, Trial, Session, Analyse, Survey, Compile, Load, Trace, Page, Explain, Usage, Request}
+use Rattle.rb_verdict.specs.Words.{Command, Run, Survive, Replay, Session, Survey, Load, Request}
 use Rattle.rb_commands.specs.Asked.{asked}
 use Rattle.rb_commands.specs.Explained.{ExplainsProgram, ExplainsRecord, ExplainsSource, NamesOfImage, NamesOfSource}
 use Rattle.rb_commands.specs.declared.request.Request.{Request as Given}

@@ -3,7 +3,7 @@ use Rattle.std.specs.Prelude.{◌≡◌, ◌⊎◌, ℕ, List, [], ◌∷◌, Op
 use Rattle.rb_base.specs.declared.kept.Kept.{Kept}
 use Rattle.rb_base.specs.declared.names.Names.{Names}
 use Rattle.rb_syntax.specs.Tree.{Tree}
-use Rattle.rb_outside.specs.Outside.{Faults, WrotePart, failed_once, then_written}
+use Rattle.rb_outside.specs.Outside.{Faults, WrotePart}
 use Rattle.rb_plain.specs.declared.stuck.StuckTurn.{StuckTurn}
 use Rattle.rb_record.specs.Record.{record_of}
 use Rattle.rb_hall.specs.declared.fault.Fault.{Fault}
@@ -16,25 +16,18 @@ use Rattle.rb_run.specs.declared.surviving.Ended.{Ended}
 use Rattle.rb_run.specs.declared.surviving.Ended.TheVariants as ended
 use Rattle.rb_back.specs.declared.showing.Stopped.{Stopped}
 use Rattle.rb_back.specs.declared.showing.Stopped.TheVariants as stopped
-use Rattle.rb_verdict.specs.Judging.{OverSchedule, OverTurns, PlainGoesOn, SessionGoesOn}
+use Rattle.rb_turns.specs.Written.{PutsOrMemory}
+use Rattle.rb_verdict.specs.Judging.{OverTurns, PlainGoesOn, SessionGoesOn}
 use Rattle.rb_verdict.specs.Texts.{names_of}
 use Rattle.rb_commands.specs.Explained.{IsStuckAt, NamesOfSource}
 use Rattle.rb_commands.specs.declared.why.Why.{Why}
 use Rattle.rb_commands.specs.declared.why.Why.TheVariants as why
 
--- All of this text was written; or a prefix of it was, and then one call failed, after which none followed; or memory was wanting before anything
--- was written.
-abbrev pub PutsOrMemory : List ℕ → Option (List ℕ) → Option (List ℕ) → Faults → Faults → Result (Unit {0}) (Unwritten Why) → Type 0
-PutsOrMemory text old new before after (Ok done) = (new ≡ then_written old text) × (after.count ≡ before.count)
-PutsOrMemory text old new before after (Err (unwritten.Refused fault known)) = ⊥
-PutsOrMemory text old new before after (Err unwritten.Fault) = WrotePart old new text × (after ≡ failed_once before)
-PutsOrMemory text old new before after (Err unwritten.Memory) = (new ≡ old) × (after ≡ before)
-
--- the same of who takes memory while it writes: where memory was wanting, nothing was written, or a prefix of the text
+-- How a call ends that writes a text and takes memory while it writes: where memory was wanting, nothing was written, or a prefix of the text.
 abbrev pub PutsFrontOrMemory : List ℕ → Option (List ℕ) → Option (List ℕ) → Faults → Faults → Result (Unit {0}) (Unwritten Why) → Type 0
-PutsFrontOrMemory text old new before after (Ok done) = PutsOrMemory text old new before after (Ok done)
+PutsFrontOrMemory text old new before after (Ok done) = PutsOrMemory {W = Why} text old new before after (Ok done)
 PutsFrontOrMemory text old new before after (Err (unwritten.Refused fault known)) = ⊥
-PutsFrontOrMemory text old new before after (Err unwritten.Fault) = PutsOrMemory text old new before after (Err unwritten.Fault)
+PutsFrontOrMemory text old new before after (Err unwritten.Fault) = PutsOrMemory {W = Why} text old new before after (Err unwritten.Fault)
 PutsFrontOrMemory text old new before after (Err unwritten.Memory) =
     ((new ≡ old) × (after ≡ before)) ⊎ (WrotePart old new text × (after.count ≡ before.count))
 

@@ -7,7 +7,7 @@ ghost use Rattle.rb_verdict.specs.Judging.{Judges};
 ghost use Rattle.rb_verdict.specs.Words.{Analyse, text_named};
 ghost use Rattle.rb_commands.specs.Explained.{ExplainsSource};
 ghost use Rattle.rb_commands.specs.Held.{HoldsHistory};
-ghost use Rattle.rb_commands.specs.Written.{PutsOrMemory};
+ghost use Rattle.rb_turns.specs.Written.{PutsOrMemory};
 
 use crate::why::Why;
 use rb_base::{MOST_BYTES, Steps};

@@ -9,7 +9,6 @@ ghost use Rattle.rb_verdict.specs.Programs.{MayRun, names_in, program_of};
 ghost use Rattle.rb_commands.specs.Held.{IsUnfit};
 ghost use Rattle.rb_commands.specs.Written.{EndsOverTurns};
 
-use crate::run::run_turns;
 use crate::why::Why;
 use rb_base::{MOST_BYTES, Nested};
 use rb_code::Code;
@@ -18,6 +17,7 @@ use rb_image::Raw;
 use rb_lists::check_lists;
 use rb_outside::Sink;
 use rb_sched::Schedule;
+use rb_turns::run_turns;
 use rb_verify::verify;
 use std::alloc::Global;
 use std::marker::{Brand, Model};
@@ -113,7 +113,7 @@ fn run_over<S: Sink>(
 {
     let fault = match Schedule::read(text, &code.names) {
         Ok(schedule) => {
-            return run_turns::<S, Brand>(alloc, &code, &nested, schedule, out, Blank::new(1));
+            return run_turns::<Why, S, Brand>(alloc, &code, &nested, schedule, out, Blank::new(1));
         }
         Err(fault) => fault,
     };

@@ -11,9 +11,9 @@ ghost use Rattle.rb_verdict.specs.Words.{text_named};
 ghost use Rattle.rb_commands.specs.Explained.{ExplainsProgram, NamesOfSource};
 ghost use Rattle.rb_commands.specs.Held.{HoldsScheduled};
 ghost use Rattle.rb_commands.specs.Products.{command_for, text_for, word_text_for};
-ghost use Rattle.rb_commands.specs.Written.{EndsOverSchedule, PutsOrMemory};
+ghost use Rattle.rb_turns.specs.Written.{PutsOrMemory};
+ghost use Rattle.rb_commands.specs.Written.{EndsOverSchedule};
 
-use crate::run::run_turns;
 use crate::source::prepare_source;
 use crate::stuck::survey_turns;
 use crate::survive::survive_turns;
@@ -23,6 +23,7 @@ use rb_hall::{Command, Fault, Stop, Unwritten, Wanted, Written};
 use rb_outside::{Memory, Sink};
 use rb_prepare::Prepared;
 use rb_sched::Schedule;
+use rb_turns::run_turns;
 use std::alloc::Global;
 use std::marker::Brand;
 use std::sync::ledger::Blank;
@@ -170,7 +171,7 @@ fn over_turns<S: Sink>(
         (S.written out.old) (S.written out.new) (S.faults out.old) (S.faults out.new) result }
 {
     match product {
-        Product::Text => run_turns::<S, Brand>(
+        Product::Text => run_turns::<Why, S, Brand>(
             alloc,
             &prepared.code,
             &prepared.nested,

@@ -70,13 +70,13 @@ pub fn command<'s, F: Shelf, S: Sink + Drop>(
         (scene_of F.files F.starts F.faults S.written S.faults shelf.new result.sink)
         result.outcome }
 {
-    carry(alloc, request, slots, shelf, out)
+    carry(alloc, &request, slots, shelf, out)
 }
 
 // The same, each end with its cause.
 fn carry<'s, F: Shelf, S: Sink + Drop>(
     alloc: Global,
-    request: Request<'_>,
+    request: &Request<'_>,
     slots: &'s mut [Vec<u8>],
     shelf: &mut F,
     out: S,
@@ -84,23 +84,23 @@ fn carry<'s, F: Shelf, S: Sink + Drop>(
     requires unwritten { IsUnwritten (S.written out) }
     requires slots { MOST_FILES ≤ length slots.old }
     ensures files { F.files shelf.new ≡ F.files shelf.old }
-    ensures untouched { (asked request.entry).files ≡ [] → shelf.new ≡ shelf.old }
-    ensures ends { RequestEnds request.entry
+    ensures untouched { (asked request.now).files ≡ [] → shelf.new ≡ shelf.old }
+    ensures ends { RequestEnds request.now
         (scene_of F.files F.starts F.faults S.written (λ sink. went_well (S.faults sink)) shelf.old out)
         (scene_of F.files F.starts F.faults S.written S.faults shelf.new result.sink)
         result.outcome }
 {
     match request {
-        Request::OverSchedule(over) => carry_out(alloc, &over, slots, shelf, out),
-        Request::Plain(plain) => carry_out(alloc, &plain, slots, shelf, out),
-        Request::Check(check) => carry_out(alloc, &check, slots, shelf, out),
-        Request::Code(code) => carry_out(alloc, &code, slots, shelf, out),
-        Request::Compile(compile) => carry_out(alloc, &compile, slots, shelf, out),
-        Request::Trial(trial) => carry_out(alloc, &trial, slots, shelf, out),
-        Request::Load(load) => carry_out(alloc, &load, slots, shelf, out),
-        Request::Session(session) => carry_out(alloc, &session, slots, shelf, out),
-        Request::Domino(domino) => carry_out(alloc, &domino, slots, shelf, out),
-        Request::Usage(usage) => carry_out(alloc, &usage, slots, shelf, out),
+        Request::OverSchedule(over) => carry_out(alloc, over, slots, shelf, out),
+        Request::Plain(plain) => carry_out(alloc, plain, slots, shelf, out),
+        Request::Check(check) => carry_out(alloc, check, slots, shelf, out),
+        Request::Code(code) => carry_out(alloc, code, slots, shelf, out),
+        Request::Compile(compile) => carry_out(alloc, compile, slots, shelf, out),
+        Request::Trial(trial) => carry_out(alloc, trial, slots, shelf, out),
+        Request::Load(load) => carry_out(alloc, load, slots, shelf, out),
+        Request::Session(session) => carry_out(alloc, session, slots, shelf, out),
+        Request::Domino(domino) => carry_out(alloc, domino, slots, shelf, out),
+        Request::Usage(usage) => carry_out(alloc, usage, slots, shelf, out),
     }
 }
 

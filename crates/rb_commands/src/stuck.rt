@@ -5,7 +5,7 @@ ghost use Rattle.rb_code.specs.Instructions.Plain.{code as plain};
 ghost use Rattle.rb_conv.specs.Conversations.{memberships, opening};
 ghost use Rattle.rb_prepare.specs.Prepared.{IsPrepared};
 ghost use Rattle.rb_stuck.specs.Programs.{word_standing_text};
-ghost use Rattle.rb_commands.specs.Written.{PutsOrMemory};
+ghost use Rattle.rb_turns.specs.Written.{PutsOrMemory};
 
 use crate::why::Why;
 use rb_base::Steps;

@@ -7,7 +7,8 @@ ghost use Rattle.rb_conv.specs.Conversations.{memberships, opening};
 ghost use Rattle.rb_recovery.specs.Survivors.{word_survivors};
 ghost use Rattle.rb_prepare.specs.Prepared.{IsPrepared};
 ghost use Rattle.rb_world.specs.Text.{record_text};
-ghost use Rattle.rb_commands.specs.Written.{PutsOrMemory, unwritten_of_survival};
+ghost use Rattle.rb_turns.specs.Written.{PutsOrMemory};
+ghost use Rattle.rb_commands.specs.Written.{unwritten_of_survival};
 
 use crate::why::Why;
 use rb_base::Steps;

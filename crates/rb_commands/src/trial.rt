@@ -13,7 +13,8 @@ ghost use Rattle.rb_verdict.specs.Words.{Trial as Trying};
 ghost use Rattle.rb_commands.specs.Explained.{ExplainsSource};
 ghost use Rattle.rb_commands.specs.Held.{HoldsNoText};
 ghost use Rattle.rb_commands.specs.Products.{word_counts};
-ghost use Rattle.rb_commands.specs.Written.{EndsPlainly, PutsOrMemory};
+ghost use Rattle.rb_turns.specs.Written.{PutsOrMemory};
+ghost use Rattle.rb_commands.specs.Written.{EndsPlainly};
 
 use crate::source::prepare_source;
 use crate::summary::put_summary;

@@ -8,7 +8,7 @@ use Rattle.rb_page.specs.Escape.{escaped}
 use Rattle.rb_page.specs.Page.{before_trace, page_text, parts_of}
 use Rattle.rb_hall.specs.declared.command.Unwritten.{Unwritten}
 use Rattle.rb_hall.specs.declared.command.Unwritten.TheVariants as unwritten
-use Rattle.rb_commands.specs.Written.{PutsOrMemory}
+use Rattle.rb_turns.specs.Written.{PutsOrMemory}
 use Rattle.rb_commands.specs.declared.why.Why.{Why}
 
 -- from another name for how the sink was

@@ -11,7 +11,8 @@ ghost use Rattle.rb_show.specs.Words.{wish_of};
 
 use crate::asking::requested;
 use crate::request::{Wish, command};
-use rb_commands::{Why, Words};
+use rb_asking::Words;
+use rb_commands::Why;
 use rb_hall::{Outcome, Wanted};
 use rb_outside::{Shelf, Sink};
 use rb_tell::{Blamed, End, Left, Telling, tell};

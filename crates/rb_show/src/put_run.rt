@@ -12,7 +12,7 @@ ghost use Rattle.rb_page.specs.Escape.{escaped};
 ghost use Rattle.rb_page.specs.Page.{page_text};
 ghost use Rattle.rb_picture.specs.Trace.{before_opening, trace_text};
 ghost use Rattle.rb_run.specs.Running.{NamesFit};
-ghost use Rattle.rb_commands.specs.Written.{PutsOrMemory};
+ghost use Rattle.rb_turns.specs.Written.{PutsOrMemory};
 ghost use Rattle.rb_show.specs.Drawing.{EndsDrawn, text_in};
 ghost use Rattle.rb_show.specs.Traced.{IsTraced};
 

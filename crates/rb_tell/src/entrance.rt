@@ -10,7 +10,8 @@ ghost use Rattle.rb_tell.specs.Entrance.{ProgramEnds, file_of, number_of as exit
 
 use crate::end::{End, Telling, tell};
 use crate::host::Blamed;
-use rb_commands::{Request, Why, Words, command, requested};
+use rb_asking::Words;
+use rb_commands::{Request, Why, command, requested};
 use rb_hall::{Outcome, Wanted};
 use rb_outside::{Shelf, Sink};
 use std::alloc::Global;

@@ -4,7 +4,7 @@ ghost use Rattle.std.specs.IoError.{error_kind};
 ghost use Rattle.std.specs.Vec.Iter.{into_iter_items};
 ghost use Rattle.rb_tell.specs.Given.{IsWordsOf, IsWithoutWords};
 
-use rb_commands::Words;
+use rb_asking::Words;
 use std::alloc::Global;
 use std::env::Args;
 use std::io::ErrorKind;

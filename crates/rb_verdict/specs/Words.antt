@@ -1,12 +1,9 @@
 -- The commands, the files that they read, and the words that ask for them. All of it is this project's own.
-use Rattle.std.specs.Prelude.{◌≡◌, ℕ, ◌^◌, nat_eq, nat_le, nat_lt, ◌&&◌, cond, List, [], ◌∷◌, length, map, codes, unwrap_or, Option, Some, None, option_map}
-use Rattle.std.specs.List.{list_all}
-use Rattle.std.specs.Cmp.Lexicographic.{pointwise}
-use Rattle.rb_base.specs.Bytes.{digits_value, is_number}
+use Rattle.std.specs.Prelude.{◌≡◌, ℕ, List, [], ◌∷◌, map, codes, unwrap_or, option_map}
 use Rattle.rb_base.specs.declared.limits.TheConstants.{MOST_BYTES}
 use Rattle.rb_hall.specs.Judgement.{Wants}
-use Rattle.rb_words.specs.Given.{with_one, with_three, with_two}
-use Rattle.rb_words.specs.Plain.{is_plain_word}
+use Rattle.rb_asking.specs.Commands.{Asked, asked_of}
+use Rattle.rb_asking.specs.Commands as given
 use Rattle.rb_verdict.specs.declared.limits.TheConstants.{MOST_IMAGE}
 
 -- a command, with what its words give it beside files
@@ -139,50 +136,19 @@ page_of page source schedule = record { command = Page; files = text_named page 
 abbrev pub usage_of : List ℕ → Request
 usage_of line = record { command = Usage line; files = [] }
 
--- at most so many digits give the number of a trial
-abbrev pub most_digits : ℕ
-most_digits = 20
-
--- the number of a trial by its digits, if it has 64 bits
-abbrev pub trial_number : List ℕ → Option ℕ
-trial_number word =
-    cond (is_number word && (nat_le (length word) most_digits && nat_lt (digits_value 0 word) (2 ^ 64))) (Some (digits_value 0 word)) None
-
--- what `trial` asks for with its one word
-abbrev pub trial_with : List (List ℕ) → Option Request
-trial_with [] = None
-trial_with (a ∷ []) = option_map trial_of (trial_number a)
-trial_with (a ∷ b ∷ more) = None
-
--- the name of a command, and what it asks for with the words that follow
-pub record Form : Type 0 where
-  pub name : List ℕ
-  pub with : List (List ℕ) → Option Request
-
--- the commands
-abbrev pub forms : List Form
-forms =
-    record { name = codes "run"; with = with_two run_of }
-    ∷ record { name = codes "survive"; with = with_two survive_of }
-    ∷ record { name = codes "plain"; with = with_two plain_of }
-    ∷ record { name = codes "check"; with = with_one check_of }
-    ∷ record { name = codes "code"; with = with_one code_of }
-    ∷ record { name = codes "trial"; with = trial_with }
-    ∷ record { name = codes "compile"; with = with_one compile_of }
-    ∷ record { name = codes "load"; with = with_two load_of }
-    ∷ record { name = codes "session"; with = with_three session_of }
-    ∷ record { name = codes "domino"; with = with_one analyse_of }
-    ∷ record { name = codes "stuck"; with = with_two survey_of } ∷ []
-
--- what the first of these commands that has this name asks for with these words
-abbrev pub named_in : List Form → List ℕ → List (List ℕ) → Option Request
-named_in [] name words = None
-named_in (form ∷ others) name words = cond (pointwise nat_eq form.name name) (form.with words) (named_in others name words)
-
--- what the words ask for: the first is the name of a command, and plain words follow as that command takes them
-abbrev pub request_of : List (List ℕ) → Option Request
-request_of [] = None
-request_of (name ∷ words) = cond (list_all is_plain_word words) (named_in forms name words) None
+-- what is carried out for a command with the words that it was given
+abbrev pub request_with : Asked → Request
+request_with (given.Run source schedule) = run_of source schedule
+request_with (given.Survive source schedule) = survive_of source schedule
+request_with (given.Plain source kept) = plain_of source kept
+request_with (given.Check source) = check_of source
+request_with (given.Code source) = code_of source
+request_with (given.Trial number) = trial_of number
+request_with (given.Compile source) = compile_of source
+request_with (given.Load image schedule) = load_of image schedule
+request_with (given.Session source schedule session) = session_of source schedule session
+request_with (given.Domino history) = analyse_of history
+request_with (given.Stuck source schedule) = survey_of source schedule
 
 -- the line for words that ask for nothing
 abbrev pub usage_line : List ℕ
@@ -190,4 +156,4 @@ usage_line = codes "usage: rbl run SOURCE SCHEDULE | survive SOURCE SCHEDULE | p
 
 -- what is carried out: what the words ask for, or else the usage line is written
 abbrev pub request_for : List (List ℕ) → Request
-request_for words = unwrap_or (request_of words) (usage_of usage_line)
+request_for words = unwrap_or (option_map request_with (asked_of words)) (usage_of usage_line)

@@ -6,8 +6,8 @@ ghost use Rattle.rb_web.specs.Ending.{EndsInMemory, EndsOf, quiet, scene_in};
 
 use crate::room::Room;
 use crate::texts::Texts;
+use rb_asking::Words;
 use rb_base::Memory;
-use rb_commands::Words;
 use rb_tell::{Left, Telling};
 use std::alloc::Global;
 

@@ -2,8 +2,8 @@
 ghost use Rattle.std.specs.Prelude.{◌≡◌, ℕ, List, IfOk, MatchOption};
 ghost use Rattle.rb_web.specs.Asked.{AreWords};
 
+use rb_asking::Words;
 use rb_base::Memory;
-use rb_commands::Words;
 use std::alloc::Global;
 
 /// The text of words, each ended by a byte 0. None where the bytes are no UTF-8, or the last word is not ended.

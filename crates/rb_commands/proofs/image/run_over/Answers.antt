@@ -5,7 +5,8 @@ use Rattle.rb_nest.specs.Groups.{memberships}
 use Rattle.rb_trace.specs.Naming.{naming}
 use Rattle.rb_verdict.specs.Judging.{OverTurns}
 use Rattle.rb_verdict.specs.Programs.{names_in, program_of}
-use Rattle.rb_commands.specs.Written.{KnowsNames, PutsOrMemory}
+use Rattle.rb_turns.specs.Written.{PutsOrMemory}
+use Rattle.rb_commands.specs.Written.{KnowsNames}
 use Rattle.rb_commands.proofs.Ending.{whole_ends}
 use Rattle.rb_commands.proofs.Images.{names_fit_code, run_told, sound_opened, turns_refused, turns_run}
 use Rattle.rb_commands.proofs.image.run_over.Goals as goal

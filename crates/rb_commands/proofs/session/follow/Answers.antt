@@ -1,4 +1,4 @@
-use Rattle.std.proofs.Common.{◌≡◌, sym, ap, subst, ◌∙◌}
+use Rattle.std.proofs.Common.{sym, ap, subst, ◌∙◌}
 use Rattle.rb_code.specs.Instructions.Plain.{code}
 use Rattle.rb_conv.specs.Conversations.{memberships, opening}
 use Rattle.rb_run.specs.Running.{NamesFit}

@@ -2,7 +2,7 @@ use Rattle.std.proofs.Common.{◌≡◌, ℕ, [], ◌∷◌, length, vec_len, Er
 use Rattle.rb_base.specs.Naming.{process_names}
 use Rattle.rb_code.specs.Instructions.Plain.{code}
 use Rattle.rb_conv.specs.Conversations.{memberships, opening}
-use Rattle.rb_sched.specs.Schedule.{Plan, fresh}
+use Rattle.rb_sched.specs.Schedule.{Plan}
 use Rattle.rb_back.specs.Script.{CanFollow, script_of}
 use Rattle.rb_back.specs.Shown.{session_text}
 use Rattle.rb_verdict.specs.Judging.{SessionGoesOn}

@@ -1,5 +1,5 @@
 -- The machine was just loaded; after the turns of the schedule it may take one more of each process.
-use Rattle.std.proofs.Common.{◌≡◌, ap, ◌∙◌, arith}
+use Rattle.std.proofs.Common.{ap, ◌∙◌, arith}
 use Rattle.rb_code.specs.Instructions.Plain.{code}
 use Rattle.rb_conv.specs.Conversations.{memberships, opening}
 use Rattle.rb_machine.specs.Machine.{Seen}
@@ -8,7 +8,7 @@ use Rattle.rb_code.specs.WordMachine.WordKind.{word_kind}
 use Rattle.rb_trace.specs.Naming.{naming}
 use Rattle.rb_stuck.specs.Programs.{word_standing_text}
 use Rattle.rb_stuck.specs.Stuck.{text_of}
-use Rattle.rb_commands.proofs.Ending.{put_done, put_stopped}
+use Rattle.rb_turns.proofs.Ending.{put_done, put_stopped}
 use Rattle.rb_commands.proofs.Loaded.{is_sound}
 use Rattle.rb_commands.proofs.Surveys.{named_after, named_later, text_after, waits_later}
 use Rattle.rb_commands.proofs.stuck.survey_turns.Goals as goal
@@ -47,7 +47,7 @@ returns-in-Ok-write_standing g c =
     (text_after c.requires.prepared.0 prepared c.requires.prepared.1 _ turns c.count.new.machine led after
     c.survey-standing.result c.survey-standing.ensures.standing c.survey-standing.ensures.after)
     (g.S.Sink.written c.args.out.now) (g.S.Sink.written c.write_standing.new.out) (g.S.Sink.faults c.args.out.now)
-    (g.S.Sink.faults c.write_standing.new.out) tt tt c.in-Ok-write_standing.ensures
+    (g.S.Sink.faults c.write_standing.new.out) tt c.in-Ok-write_standing.ensures
 
 pub returns-in-Ok : goal.returns-in-Ok
 returns-in-Ok g c =

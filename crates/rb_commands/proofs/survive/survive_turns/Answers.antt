@@ -1,4 +1,4 @@
-use Rattle.std.proofs.Common.{◌≡◌, true, sym, ap, ◌∙◌}
+use Rattle.std.proofs.Common.{true, sym, ap, ◌∙◌}
 use Rattle.rb_code.specs.Instructions.Plain.{code}
 use Rattle.rb_code.specs.WordMachine.WordRun.{word_run}
 use Rattle.rb_conv.specs.Conversations.{memberships, opening}

@@ -1,6 +1,5 @@
 use Rattle.std.proofs.Common.{◌≡◌, ℕ, List, [], ◌∷◌, refl, subst}
 use Rattle.rb_judge.specs.Verdict.{IsAccepted}
-use Rattle.rb_make.specs.Trial.{schedule_of as made_schedule, source_of}
 use Rattle.rb_hall.proofs.Ends.{ends_as}
 use Rattle.rb_verdict.specs.Judging.{Judges, OverSchedule}
 use Rattle.rb_verdict.specs.Summary.{summary_text}

@@ -1,12 +1,12 @@
-use Rattle.std.proofs.Common.{◌≡◌, ℕ, false, length, sym, ap, ap₂, ◌∙◌}
+use Rattle.std.proofs.Common.{◌≡◌, false, sym, ap, ap₂, ◌∙◌}
 use Rattle.rb_code.specs.Instructions.Plain.{code}
 use Rattle.rb_conv.specs.Conversations.{memberships, opening}
 use Rattle.rb_machine.specs.Machine.{Seen, opening_seen}
-use Rattle.rb_run.specs.Counting.{Counted, counts}
+use Rattle.rb_run.specs.Counting.{counts}
 use Rattle.rb_verdict.specs.Summary.{summary_of}
 use Rattle.rb_commands.specs.Products.{word_counts}
 use Rattle.rb_commands.proofs.Loaded.{is_sound}
-use Rattle.rb_commands.proofs.Ending.{put_done, put_stopped}
+use Rattle.rb_turns.proofs.Ending.{put_done, put_stopped}
 use Rattle.rb_commands.proofs.trial.try_turns.Goals as goal
 
 pub load-requires-clause-sound : goal.load-requires-clause-sound
@@ -24,7 +24,7 @@ returns-in-Ok-put_summary g c =
     let turns = c.args.schedule.all in
     let counted : counts c.count-counts.result ≡ word_counts (code prepared.code) (memberships (opening prepared.nested)) turns =
     c.count-counts.ensures.counts ∙ ap (λ (m : Seen). word_counts m.code m.groups turns) c.in-Ok.ensures in
-    put_done _ _ (ap₂ (summary_of n) c.turns-turns.ensures.all counted) _ _ _ _ _ tt c.in-Ok-put_summary.ensures
+    put_done _ _ (ap₂ (summary_of n) c.turns-turns.ensures.all counted) _ _ _ _ _ c.in-Ok-put_summary.ensures
 
 pub returns-in-Ok : goal.returns-in-Ok
 returns-in-Ok g c =

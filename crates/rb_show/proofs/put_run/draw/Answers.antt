@@ -3,7 +3,8 @@ use Rattle.rb_picture.specs.Meant.{tree_trace_text}
 use Rattle.rb_verdict.specs.Judging.{OverTurns}
 use Rattle.rb_verdict.specs.Texts.{names_of}
 use Rattle.rb_commands.specs.Explained.{NamesOfSource}
-use Rattle.rb_commands.specs.Written.{KnowsNames, PutsOrMemory}
+use Rattle.rb_turns.specs.Written.{PutsOrMemory}
+use Rattle.rb_commands.specs.Written.{KnowsNames}
 use Rattle.rb_commands.proofs.Ending.{whole_ends}
 use Rattle.rb_commands.proofs.Loaded.{code_names_fit, is_sound}
 use Rattle.rb_commands.proofs.Scheduled.{its_names, turns_refused, turns_run}

@@ -1,6 +1,5 @@
-use Rattle.std.proofs.Common.{[], ◌∷◌, List, subst}
-use Rattle.rb_prepare.specs.Prepared.{IsPrepared}
-use Rattle.rb_commands.specs.Held.{HoldsSession, TakesTurns}
+use Rattle.std.proofs.Common.{[], ◌∷◌, subst}
+use Rattle.rb_commands.specs.Held.{HoldsSession}
 use Rattle.rb_commands.proofs.Sessions.{session_taken, source_not_taken, source_taken, turns_held, turns_not_held}
 use Rattle.rb_commands.proofs.Taken.{next_is_short}
 use Rattle.rb_commands.proofs.session.SessionCommand.take.Goals as goal

@@ -3,11 +3,11 @@ use Rattle.std.proofs.lemmas.Result.{IfOk-weaker}
 use Rattle.std.specs.List.{list_all}
 use Rattle.std.proofs.lemmas.List.Folds.{list_all-map}
 use Rattle.clap.specs.Words.{is_simple}
-use Rattle.rb_commands.specs.Asked.{asked}
+use Rattle.rb_asking.specs.CommandLine.{plainly}
 use Rattle.rb_words.specs.Plain.{is_plain_word}
-use Rattle.rb_verdict.specs.Words.{request_of}
-use Rattle.rb_commands.proofs.CommandLine.{answer_taken, answer_refused, asks_none, found_in, is_told_simple}
-use Rattle.rb_commands.proofs.asking.asked_for.Goals as goal
+use Rattle.rb_asking.specs.Commands.{asked_of}
+use Rattle.rb_asking.proofs.CommandLine.{answer_taken, answer_refused, asks_none, found_in, is_told_simple}
+use Rattle.rb_asking.proofs.asking.asked_for.Goals as goal
 
 pub returns-then-not-are_plain : goal.returns-then-not-are_plain
 returns-then-not-are_plain c =
@@ -19,15 +19,15 @@ pub returns-in-Ok : goal.returns-in-Ok
 returns-in-Ok c =
     let plain : list_all is_plain_word (map string_bytes c.list-words.result.now) ≡ true =
     list_all-map is_plain_word _ c.list-words.result.now ∙ sym c.if-not-are_plain.ensures in
-    sym (c.request_in.ensures ∙ ap found_in (c.in-Ok.ensures.matches (ap is_simple c.in_ok-command_line.ensures ∙ is_told_simple)).1
-    ∙ answer_taken _ _ c.in_ok-command_line.ensures plain c.in-Ok.ensures.kinds ∙ ap request_of c.list-words.ensures)
+    sym (c.asked_in.ensures ∙ ap found_in (c.in-Ok.ensures.matches (ap is_simple c.in_ok-command_line.ensures ∙ is_told_simple)).1
+    ∙ answer_taken _ _ c.in_ok-command_line.ensures plain c.in-Ok.ensures.kinds ∙ ap asked_of c.list-words.ensures)
 
 pub returns-in-Err : goal.returns-in-Err
 returns-in-Err c =
     let plain : list_all is_plain_word (map string_bytes c.list-words.result.now) ≡ true =
     list_all-map is_plain_word _ c.list-words.result.now ∙ sym c.if-not-are_plain.ensures in
     IfOk-weaker c.none_unless_memory.result _ _
-    (λ request none. ap request_of (sym c.list-words.ensures)
+    (λ asked none. ap asked_of (sym c.list-words.ensures)
     ∙ answer_refused _ _ c.in-Err.error c.in_ok-command_line.ensures plain c.in-Err.ensures.kinds (λ memory. none.1 (c.kind.ensures ∙ memory))
-    ∙ sym (ap (option_map asked) none.0))
-    c.none_unless_memory.ensures
+    ∙ sym (ap (option_map plainly) none.0))
+    c.none_unless_memory.ensures.none

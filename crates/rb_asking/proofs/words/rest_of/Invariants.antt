@@ -1,6 +1,6 @@
 use Rattle.std.proofs.Common.{◌≡◌, ◌++◌}
 use Rattle.std.specs.Vec.Iter.{into_iter_items, into_iter_len}
-use Rattle.rb_commands.proofs.words.rest_of.Given as goal
+use Rattle.rb_asking.proofs.words.rest_of.Given as goal
 
 abbrev pub invariant-loop-word : goal.invariant-loop-word
 invariant-loop-word l = l.words.items ++ into_iter_items l.given ≡ into_iter_items l.initial.given

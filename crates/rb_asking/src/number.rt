@@ -1,7 +1,7 @@
 //! The number of a trial, as a word of the command line gives it.
 ghost use Rattle.std.specs.Prelude.{◌≡◌, ◌+◌, ◌-◌, ◌*◌, ◌^◌, nat_lt, cond};
 ghost use Rattle.rb_base.specs.Bytes.{digits_value};
-ghost use Rattle.rb_verdict.specs.Words.{trial_number};
+ghost use Rattle.rb_asking.specs.Number.{trial_number};
 
 use rb_base::numbers::is_number;
 

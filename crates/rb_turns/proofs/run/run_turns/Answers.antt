@@ -1,11 +1,11 @@
-use Rattle.std.proofs.Common.{◌≡◌, false, sym, ap, subst, ◌∙◌}
+use Rattle.std.proofs.Common.{false, sym, ap, subst, ◌∙◌}
 use Rattle.rb_code.specs.Instructions.Plain.{code}
 use Rattle.rb_code.specs.WordMachine.WordRun.{word_text}
 use Rattle.rb_conv.specs.Conversations.{memberships, opening}
 use Rattle.rb_machine.specs.Machine.{Seen, opening_seen}
 use Rattle.rb_run.specs.Running.{NamesFit}
-use Rattle.rb_commands.proofs.Ending.{put_done, put_stopped}
-use Rattle.rb_commands.proofs.run.run_turns.Goals as goal
+use Rattle.rb_turns.proofs.Ending.{put_done, put_stopped}
+use Rattle.rb_turns.proofs.run.run_turns.Goals as goal
 
 pub run-requires-clause-fresh : goal.run-requires-clause-fresh
 run-requires-clause-fresh g c =
@@ -25,7 +25,7 @@ returns-in-Ok-run g c =
     put_done (word_text machine.code machine.groups turns) (word_text (code c.args.code.now) (memberships (opening c.args.nested.now)) turns)
     (ap (λ (m : Seen). word_text m.code m.groups turns) c.in-Ok.ensures)
     (g.S.Sink.written c.args.out.now) (g.S.Sink.written c.run.new.out) (g.S.Sink.faults c.args.out.now) (g.S.Sink.faults c.run.new.out)
-    tt tt c.in-Ok-run.ensures.text
+    tt c.in-Ok-run.ensures.text
 
 pub returns-in-Ok : goal.returns-in-Ok
 returns-in-Ok g c =

@@ -1,6 +1,6 @@
 use Rattle.std.proofs.Common.{◌≡◌, ◌<◌, ◌^◌, length}
 use Rattle.rb_base.specs.Bytes.{digits_value}
-use Rattle.rb_commands.proofs.number.value_of.Given as goal
+use Rattle.rb_asking.proofs.number.value_of.Given as goal
 
 -- what was read and what is left stand for the number
 abbrev pub invariant-loop-rest : goal.invariant-loop-rest

@@ -1,6 +1,6 @@
 use Rattle.std.proofs.Common.{sym, ◌∙◌}
-use Rattle.rb_commands.proofs.Digits.{above_stays}
-use Rattle.rb_commands.proofs.number.value_of.Goals as goal
+use Rattle.rb_asking.proofs.Digits.{above_stays}
+use Rattle.rb_asking.proofs.number.value_of.Goals as goal
 
 pub returns-in_err-value : goal.returns-in_err-value
 returns-in_err-value c =

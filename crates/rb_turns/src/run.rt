@@ -7,9 +7,8 @@ ghost use Rattle.rb_conv.specs.Conversations.{memberships, opening};
 ghost use Rattle.rb_code.specs.SoundCode.WellFormed.{IsSound};
 ghost use Rattle.rb_recovery.specs.Worlds.{counts_of};
 ghost use Rattle.rb_run.specs.Running.{NamesFit};
-ghost use Rattle.rb_commands.specs.Written.{PutsOrMemory};
+ghost use Rattle.rb_turns.specs.Written.{PutsOrMemory};
 
-use crate::why::Why;
 use rb_base::{Nested, Steps};
 use rb_code::Code;
 use rb_hall::Unwritten;
@@ -22,14 +21,14 @@ use std::sync::ledger::{Blank, Ledger};
 
 /// Runs sound code over turns, and writes the text of the run. The ledger counts steps, which contracts alone see.
 #[inline(always)]
-pub fn run_turns<S: Sink, L: Ledger>(
+pub fn run_turns<W: Drop, S: Sink, L: Ledger>(
     alloc: Global,
     code: &Code,
     nested: &Nested,
     schedule: Schedule<'_>,
     out: &mut S,
     blank: Blank,
-) -> Result<(), Unwritten<Why>>
+) -> Result<(), Unwritten<W>>
     requires name { blank.name ≡ L.name }
     requires parts { blank.parts ≡ L.parts }
     requires backed { 0 < blank.parts }

@@ -1,0 +1,4 @@
+pub mod Naming
+pub mod CommandLine
+pub mod Digits
+pub mod Joining

@@ -1,0 +1,5 @@
+pub mod Number
+pub mod Forms
+pub mod Program
+pub mod Commands
+pub mod CommandLine
