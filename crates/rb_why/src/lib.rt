@@ -6,6 +6,7 @@ mod converses;
 mod expected;
 pub mod file;
 mod habits;
+pub mod laws;
 mod likeness;
 mod listed;
 mod nested;
