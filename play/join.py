@@ -22,7 +22,7 @@ from bare import bare
 GRAMMARS = {"program": "editors/vscode/syntaxes/rbl.tmLanguage.json", "schedule": "editors/vscode/syntaxes/rbl-schedule.tmLanguage.json"}
 # Each script stands on those before it: those that come before anything is seen, and those of the page. The worker's run in the engine's thread.
 FIRST_SCRIPTS = ["view/parts/palette.js", "play/page/keeping.js", "play/page/theme.js", "play/page/packed.js"]
-SCRIPTS = [f"play/page/{name}.js" for name in (
+SCRIPTS = ["view/parts/drawn.js"] + [f"play/page/{name}.js" for name in (
     "page", "bytes", "grammar", "editors", "marks", "thread", "reason", "outcome", "picture", "tabs", "running", "lessons", "links",
     "files", "printing", "start")]
 WORKER = ["play/engine.js", "play/page/packed.js", "play/page/worker.js"]

@@ -1,12 +1,12 @@
 /* The trials of the picture in the playground: two runs side by side, and questions that the editor asks. */
 "use strict";
-const { OUT, example, same } = require("./native.js");
+const { PAGE, OUT, example, addressOf, same } = require("./native.js");
 const { Driven } = require("./driven.js");
 const path = require("path");
 
 // A run that is kept is drawn beside the next one, and where they part is marked and told.
 async function comparing(page) {
-  await page.choose("step4");
+  await page.open(addressOf(PAGE));
   await page.drawn(60);
   const press = id => page.frame(`void d.getElementById("${id}").click()`), says = () => page.frame(`d.getElementById("says").textContent`);
   await press("first");

@@ -67,7 +67,7 @@ async function testTime(browser) {
     }
     const [open, scroll, step, slow] = [opens, scrolls, steps, slows].map(times => Math.min(...times));
     const told = [open.toFixed(0), scroll.toFixed(1), step.toFixed(1), slow.toFixed(2)];
-    console.log(`${name}: to open, a frame of scrolling, a step: ${told.slice(0, 3).join(", ")} ms of a processor that is ${told[3]} times as slow as it can be`);
+    console.log(`${name}: to open, for a frame, for a step: ${told.slice(0, 3).join(", ")} ms of a processor; it takes ${told[3]} times what it can`);
     sure(`${name}: open`, open < limits.open * slow, opens);
     sure(`${name}: scroll`, scroll < limits.scroll * slow, scrolls);
     sure(`${name}: step`, step < limits.step * slow, steps);

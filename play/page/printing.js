@@ -5,7 +5,7 @@ function partsOfPicture() {
   if (!paper || !picture.run) return [];
   inside.dispatchEvent(new Event("beforeprint"));
   const parts = selector => [...paper.querySelectorAll(selector)].map(part => document.importNode(part, true));
-  return [...parts(".strip"), made("h2", {}, "What it prints"), ...parts(".output, .legend")];
+  return [...parts(".strip"), made("h2", {}, "What it prints"), ...parts(".output, .howtoread")];
 }
 
 function layPaper() {

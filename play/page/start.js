@@ -30,6 +30,7 @@ async function start() {
   thread.begin();
   const [editor, view, list] = await Promise.all(["editor", "view", "lessons"].map(textPacked));
   picture.page = view;
+  addDrawnStyle();
   makeTabs();
   makePicture(view);
   addScript(editor);

@@ -8,6 +8,6 @@ function setTheme(chosen) {
   theme.tell();
 }
 
-addStyle();
+addColours();
 setTheme(kept("theme"));
 matchMedia("(prefers-color-scheme: dark)").addEventListener("change", () => setTheme(theme.chosen));

@@ -39,8 +39,7 @@ function tell(event) {
   tip.hidden = !thing;
   if (!thing) return;
   speakOf(place.which);
-  tip.textContent = wordsOfThing(thing, Math.min(state.turn, LAST));
-  speakOf(0);
+  try { tip.textContent = wordsOfThing(thing, Math.min(state.turn, LAST)); } finally { speakOf(0); }
   tip.style.left = `${Math.min(event.clientX + 14, innerWidth - tip.offsetWidth - 8)}px`;
   const isLow = event.clientY + 18 + tip.offsetHeight > innerHeight;
   tip.style.top = `${isLow ? event.clientY - tip.offsetHeight - 10 : event.clientY + 18}px`;

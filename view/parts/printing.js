@@ -30,7 +30,7 @@ function layPaper() {
   const says = element("says").textContent.replace(HINT, ""), output = left + lines.map(({ line }) => line).join("\n");
   const head = `<h1>${escaped(TITLE)}${state.survivors ? ": what survived" : ""}</h1><p>${escaped(says)}</p>`;
   const part = (title, name, text) => `<h2>${escaped(title)}</h2><pre class="${name}">${escaped(text)}</pre>`;
-  const legend = `<div class="legend"><h2>How to read it</h2>${element("helptext").querySelector("table").outerHTML}</div>`;
+  const legend = `<div class="howtoread"><h2>How to read it</h2>${element("helptext").querySelector("table").outerHTML}</div>`;
   const texts = part("Source", "columns", source) + part("Schedule", "", run.schedule.trim());
   element("paper").innerHTML = head + stripsOnPaper() + legend + texts + part(element("printedtitle").textContent, "columns output", output);
 }

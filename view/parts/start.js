@@ -28,7 +28,8 @@ function setSize() {
 
 // What is there for all runs that the page shows.
 function listen() {
-  addStyle();
+  addColours();
+  addDrawnStyle();
   matchMedia("(prefers-color-scheme: dark)").addEventListener("change", () => setTheme(state.theme));
   const ofPicture = [listenToPointing, listenToZooming, listenToOverview], ofPanels = [listenToAsking, listenToProcess, listenToChannels];
   for (const part of [listenToKeys, listenToControls, ...ofPicture, ...ofPanels, listenToPrinting]) part();
