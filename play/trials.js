@@ -22,8 +22,7 @@ async function opening(page) {
   same("the first schedule", await page.text("schedule"), schedule);
   same("the first picture", await page.drawn(60), true);
   same("the first outcome", await page.told("outcome"), "After 60 turns: buyer and shop are done.");
-  same("the first picture is of the opening", await page.frame(`d.getElementById("says").textContent.startsWith("The opening")`), true);
-  await page.frame(`d.getElementById("last").click()`);
+  same("the first picture is of the whole run", await page.frame(`d.getElementById("says").textContent.startsWith("The end")`), true);
   same("marks of the first picture", await page.frame(`d.querySelectorAll("#drawing [data-thing], #drawing [data-turn]").length`) > 40, true);
   same("nothing is amiss", await page.isHidden("notice"), true);
   same("what the engine is", /^(not )?proved.* by /.test(await page.told("made")), true);

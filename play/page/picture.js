@@ -4,9 +4,9 @@ const LONG = `one of up to ${many(MOST_DRAWN, "turn")} is drawn. The other tabs 
 const OLD = "This is the picture of the last run, before the texts were changed.";
 const picture = { frame: null, isReady: null, run: null };
 
-// The frame, empty at first.
+// The frame, empty and unseen at first.
 function makePicture(page) {
-  const frame = picture.frame = made("iframe", { id: "frame", title: "the picture of the run: the arrow keys step through it" });
+  const frame = picture.frame = made("iframe", { id: "frame", class: "blank", title: "the picture of the run: the arrow keys step through it" });
   element("panel-picture").append(made("p", { class: "note", id: "picturenote", hidden: "" }), frame);
   picture.isReady = new Promise(done => frame.addEventListener("load", done, { once: true }));
   frame.srcdoc = page;
@@ -39,4 +39,5 @@ async function fillPicture(tab, run) {
   picture.run = run;
   notePicture("");
   tellPicture({ source: run.texts.program, schedule: run.texts.schedule, trace: textOfBytes(trace.out) });
+  picture.frame.classList.remove("blank");
 }

@@ -84,12 +84,16 @@ function partingWords() {
   return ` The two runs part first in ${nameOf(process)}, at its step ${step}: in turn ${turns[0]} of this run, in turn ${turns[1]} of the kept one.`;
 }
 
-const HINT = " Press → (or the button ›) to go on, and the space bar to play.";
+// At the opening, and at the end of a run that a page around this one shows whole.
+function hintWords() {
+  if (state.turn === 0 && END > 0) return " Press → (or the button ›) to go on, and the space bar to play.";
+  return state.turn === END && document.documentElement.dataset.within ? " The button |‹ leads to the opening, and › steps on from there." : "";
+}
 
 function showSentence() {
   const says = element("says"), turn = state.turn >= 1 && state.turn <= LAST ? run.turns[state.turn] : null;
   const t = Math.min(state.turn, run.end), ring = ringWords(Math.min(state.turn, LAST));
-  says.textContent = sentence(t) + ring + partingWords() + (state.turn === 0 && END > 0 ? HINT : "");
+  says.textContent = sentence(t) + ring + partingWords() + hintWords();
   says.className = ring ? "bad" : !turn ? "" : turn.kind === "undone" ? "bad" : turn.said.length ? "good" : "";
   says.setAttribute("aria-live", state.playing ? "off" : "polite");
 }

@@ -72,7 +72,7 @@ function keep() {
 }
 
 // A page around this one tells its runs: a source, a schedule and a trace; a line that is asked for; and the theme. It shows the source itself, and
-// is told where in it a turn is.
+// is told where in it a turn is. The first run is shown as a whole, from its end.
 function listenToPage() {
   let isListening = false;
   addEventListener("message", ({ source, data }) => {
@@ -84,7 +84,11 @@ function listenToPage() {
     if (element("panels").dataset.tab === "source") chooseTab("process");
     state.tell = places => source.postMessage({ places }, "*");
     take({ source: data.source, schedule: data.schedule, trace: data.trace });
-    if (!isListening) listen();
+    if (!isListening) {
+      listen();
+      state.turn = END;
+      askAnew();
+    }
     isListening = true;
     showRun();
   });
