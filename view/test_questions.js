@@ -1,12 +1,14 @@
 #!/usr/bin/env node
-/* Tests what the model answers to questions against what the questions mean, said plainly and slowly, over random programs.
+/* Tests what the model answers to questions against what the questions mean, said plainly and slowly: over the examples, programs that pass and
+   go back again and again or stand still, and random programs.
 
      node view/test_questions.js [FIRST LAST]
 
    RBLVIEW names the program that writes traces. */
 "use strict";
 const child = require("child_process"), fs = require("fs"), os = require("os"), path = require("path");
-const { Model } = require("./load.js"), { program } = require("./programs.js"), cases = require("./cases.js");
+const { Model } = require("./load.js"), { program, crowd } = require("./programs.js"), { MARKET, table } = require("./long_runs.js");
+const cases = require("./cases.js");
 
 const RBLVIEW = process.env.RBLVIEW || path.join(path.dirname(__dirname), "rblview");
 const folder = fs.mkdtempSync(path.join(os.tmpdir(), "view-test-"));
@@ -17,11 +19,23 @@ function same(what, is, wanted) {
   if (a !== b) differences.push(`${what}: it is ${a.slice(0, 300)}, wanted ${b.slice(0, 300)}`);
 }
 
-// The trace of a random program.
-function traceOf(seed) {
-  const { source, turns } = program(seed), [a, b] = ["source", "schedule"].map(name => path.join(folder, name));
+const EXAMPLES = path.join(path.dirname(__dirname), "examples");
+
+// What is tried, each with its name, its source and its schedule.
+function* programs(first, last) {
+  for (const file of fs.readdirSync(EXAMPLES).filter(name => name.endsWith(".rbl"))) {
+    const [source, schedule] = [file, file.replace(/rbl$/, "schedule")].map(name => fs.readFileSync(path.join(EXAMPLES, name), "latin1"));
+    yield [file.slice(0, -4), source, schedule];
+  }
+  yield* [["market", MARKET, "all 300\n"], ["crowd", crowd(8), "all 80\n"]];
+  yield* [["ring", table(false), "all 9\n"], ["ring with a block", table(true), "all 40\n"]];
+  for (let seed = first; seed <= last; seed++) yield [String(seed), program(seed).source, program(seed).turns.map(name => `${name} 1\n`).join("")];
+}
+
+function traceOf(source, schedule) {
+  const [a, b] = ["source", "schedule"].map(name => path.join(folder, name));
   fs.writeFileSync(a, source, "latin1");
-  fs.writeFileSync(b, turns.map(name => `${name} 1\n`).join(""), "latin1");
+  fs.writeFileSync(b, schedule, "latin1");
   return child.spawnSync(RBLVIEW, ["trace", a, b], { maxBuffer: 1 << 30 }).stdout.toString("latin1");
 }
 
@@ -48,7 +62,7 @@ function causesOf(run) {
 
 function testPast(what, run) {
   const causes = causesOf(run);
-  for (let t = 1; t <= run.lastBusy; t += 7) {
+  for (let t = 1; t <= run.lastBusy; t += 3) {
     const reached = new Set([t]), open = [t];
     while (open.length) for (const u of causes[open.pop()]) if (!reached.has(u)) { reached.add(u); open.push(u); }
     const past = run.processes.map(({ turns }) => turns.filter(u => reached.has(u)).pop() || 0);
@@ -88,6 +102,8 @@ function testWaits(what, run) {
     }
     const waits = Model.waitsAt(run, t), ring = Model.ringOf(waits);
     waits.forEach((wait, p) => {
+      const gone = run.processes[p].turns.filter(u => u <= t).pop();
+      if (gone && Model.isUndone(run, gone, t)) same(`${what} ${p} waits no more at ${t}`, wait, null);
       if (!wait) return;
       const last = run.processes[p].turns.filter(u => u <= t).pop();
       same(`${what} ${p} waits at ${t}`, [run.turns[last].kind, wait.name], ["waits", run.turns[last].what[2]]);
@@ -115,8 +131,12 @@ function testFinding(what, run) {
   for (const line of new Set(places.map(turn => turn.place.line))) {
     same(`${what} line ${line}`, Model.turnsOfLine(run, line), places.filter(turn => turn.place.line === line).map(turn => turn.number));
   }
-  const [process] = run.processes, { values: [x] } = process.variables.find(v => v.name === "x"), holds = u => +x.at(u) > 2 && +x.at(u - 1) <= 2;
-  same(`${what} x > 2`, Model.turnsFound(run, `${process.name}.x > 2`, {}), run.turns.map(t => t.number).filter(u => u > 0 && holds(u)));
+  for (const process of run.processes) {
+    for (const { name, values } of process.variables.filter(v => v.size === null)) {
+      const holds = u => +values[0].at(u) > 2 && +values[0].at(u - 1) <= 2, wanted = run.turns.map(t => t.number).filter(u => u > 0 && holds(u));
+      same(`${what} ${name} > 2`, Model.turnsFound(run, `${process.name}.${name} > 2`, {}), wanted);
+    }
+  }
   same(`${what} reject`, Model.turnsFound(run, "reject", {}), run.turns.filter(t => t.said.some(line => line.includes("reject"))).map(t => t.number));
   for (const back of run.returns) {
     const { words } = Model.putBackBetween(run, run.processes[back.process], back.turn - 1, back.turn);
@@ -131,9 +151,9 @@ function testFinding(what, run) {
 }
 
 function main([first = 1, last = 60]) {
-  for (let seed = +first; seed <= +last; seed++) {
+  for (const [name, source, schedule] of programs(+first, +last)) {
     differences = [];
-    const run = Model.readTrace(traceOf(seed)), what = `questions to ${seed}`;
+    const run = Model.readTrace(traceOf(source, schedule)), what = `questions to ${name}`;
     for (const test of [testPast, testStretches, testWaits, testFinding]) test(what, run);
     same(`${what}: a run and itself`, Model.partingsOf(run, run), []);
     cases.told(what, differences.slice(0, 3).join("; "));
