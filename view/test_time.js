@@ -35,6 +35,8 @@ async function frames(browser, count, act) {
 // A fixed piece of work of the page's kind: texts cut into words, numbers and objects. On a machine that has other work it takes longer, in time
 // of a processor too, and so does everything: limits are those of a machine that does it in REFERENCE milliseconds.
 const REFERENCE = 25;
+// A limit is told, and missed where it takes twice as long: what a busy machine takes longer differs from one piece of work to another.
+const MARGIN = 2;
 const WORK = `(() => {
   const text = "12345 level shop 1 block 1 alternate 2 used 17 entered 16\\n".repeat(20000), kept = [];
   for (const line of text.split("\\n")) { const words = line.split(" "); kept.push({ turn: +words[0], name: words[2], used: +words[9], words }); }
@@ -49,7 +51,7 @@ async function slownessNow(browser) {
     await browser.ask(WORK);
     times.push(await taken(browser) - before);
   }
-  return Math.max(1, Math.min(...times) / REFERENCE);
+  return MARGIN * Math.max(1, Math.min(...times) / REFERENCE);
 }
 
 async function testTime(browser) {
@@ -67,7 +69,7 @@ async function testTime(browser) {
     }
     const [open, scroll, step, slow] = [opens, scrolls, steps, slows].map(times => Math.min(...times));
     const told = [open.toFixed(0), scroll.toFixed(1), step.toFixed(1), slow.toFixed(2)];
-    console.log(`${name}: to open, for a frame, for a step: ${told.slice(0, 3).join(", ")} ms of a processor; it takes ${told[3]} times what it can`);
+    console.log(`${name}: to open, for a frame, for a step: ${told.slice(0, 3).join(", ")} ms of a processor; limits are taken times ${told[3]}`);
     sure(`${name}: open`, open < limits.open * slow, opens);
     sure(`${name}: scroll`, scroll < limits.scroll * slow, scrolls);
     sure(`${name}: step`, step < limits.step * slow, steps);
