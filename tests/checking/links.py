@@ -32,7 +32,8 @@ def wrong_link(page, target):
     path = os.path.normpath(os.path.join(os.path.dirname(page), file)) if file else page
     if not os.path.exists(os.path.join(ROOT, path)):
         return f"{target} leads to no file"
-    return f"{target} leads to no heading" if anchor and anchor not in anchors(path) else None
+    has_headings = path.endswith(".md")   # what stands behind `#` of play/rbl.html, test_playground.py looks after
+    return f"{target} leads to no heading" if has_headings and anchor and anchor not in anchors(path) else None
 
 
 @functools.cache
