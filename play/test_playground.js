@@ -171,6 +171,7 @@ async function speed(page) {
     openings.push(Math.round(await page.ask("drawnAt")));
   }
   await page.browser.send("Page.removeScriptToEvaluateOnNewDocument", { identifier });
+  await page.browser.send("HeapProfiler.collectGarbage");   // what is in use, not what the pages before have left
   const heap = (await page.ask("performance.memory.usedJSHeapSize")) / 1e6;
   await page.type({ program: fs.readFileSync(path.join(__dirname, "../bench/channel.rbl"), "utf8"), schedule: "all 5000\n" });
   await page.drawn(10000);

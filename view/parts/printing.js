@@ -27,7 +27,7 @@ function stripsOnPaper() {
 function layPaper() {
   const { before, lines } = linesSoFar(MOST_PRINTED_LINES), left = before > 0 ? `… ${many(before, "line")} before\n` : "";
   const source = SOURCE_LINES.map((text, k) => `${String(k + 1).padStart(3)}  ${text}`).join("\n");
-  const says = element("says").textContent.replace(HINT, ""), output = left + lines.map(({ line }) => line).join("\n");
+  const says = element("says").textContent.replace(hintWords(), ""), output = left + lines.map(({ line }) => line).join("\n");
   const head = `<h1>${escaped(TITLE)}${state.survivors ? ": what survived" : ""}</h1><p>${escaped(says)}</p>`;
   const part = (title, name, text) => `<h2>${escaped(title)}</h2><pre class="${name}">${escaped(text)}</pre>`;
   const legend = `<div class="howtoread"><h2>How to read it</h2>${element("helptext").querySelector("table").outerHTML}</div>`;

@@ -87,7 +87,7 @@ function partingWords() {
 // At the opening, and at the end of a run that a page around this one shows whole.
 function hintWords() {
   if (state.turn === 0 && END > 0) return " Press → (or the button ›) to go on, and the space bar to play.";
-  return state.turn === END && document.documentElement.dataset.within ? " The button |‹ leads to the opening, and › steps on from there." : "";
+  return state.turn === END && RUNS.length < 2 && document.documentElement.dataset.within ? " The button |‹ leads to the opening, and › steps on from there." : "";
 }
 
 function showSentence() {
