@@ -1,4 +1,5 @@
 pub mod Naming
 pub mod CommandLine
+pub mod ViewLine
 pub mod Digits
 pub mod Joining

@@ -1,11 +1,13 @@
-//! What the words of the command line of `rbl` ask for. They are read with `clap`.
+//! What the words of the command lines of `rbl` and of `rblview` ask for. They are read with `clap`.
 #![tactic(auto)]
 
 pub mod asking;
 pub mod line;
 pub mod number;
+pub mod viewing;
 pub mod words;
 
 pub use asking::{Asked, asked_for};
-pub use line::{none_unless_memory, program_alone, with_commands};
+pub use line::{and_last, none_unless_memory, program_alone, with_commands};
+pub use viewing::{View, view_for};
 pub use words::Words;

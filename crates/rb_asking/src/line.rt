@@ -1,14 +1,14 @@
 //! The command line of a program with commands, as `clap` is told of it.
 ghost use Rattle.std.specs.Prelude.{◌≡◌, IfOk, OnErr, None, map};
 ghost use Rattle.clap.specs.Words.{app_of, with_subcommand};
-ghost use Rattle.rb_words.specs.Leaf.{command_with};
+ghost use Rattle.rb_words.specs.Leaf.{command_and_last, command_with};
 ghost use Rattle.std.specs.List.{fold};
 ghost use Rattle.rb_asking.specs.Program.{program_alone, shape_of};
 
 use clap::Command;
 use clap::error::ErrorKind;
 use rb_base::Memory;
-use rb_words::command_with;
+use rb_words::{command_and_last, command_with};
 use std::alloc::{AllocError, Global};
 
 /// The program of this name, of which one command has to be named; `help` is none.
@@ -48,6 +48,20 @@ fn and_command<'a>(
     ensures { IfOk result (λ more. app_of more ≡ with_subcommand (app_of program.entry) (command_with name.entry.now (map (λ w. w.now) words.now))) }
 {
     program.subcommand(command_with(alloc, name, words)?)
+}
+
+/// The program with one command more, that takes as many words as these, and another that may be left out.
+pub fn and_last<'a>(
+    alloc: Global,
+    program: Command<'a>,
+    name: &'a str,
+    words: &[&'a str],
+    last: &'a str,
+) -> Result<Command<'a>, AllocError>
+    ensures { IfOk result (λ more. app_of more
+        ≡ with_subcommand (app_of program.entry) (command_and_last name.entry.now (map (λ w. w.now) words.now) last.entry.now)) }
+{
+    program.subcommand(command_and_last(alloc, name, words, last)?)
 }
 
 /// Words that are refused for this give no command, unless memory was wanting.

@@ -14,10 +14,11 @@ use Rattle.clap.specs.declared.parser.matches.Found.{Found}
 use Rattle.clap.specs.Faults.{fault_of, is_simple_and_free}
 use Rattle.clap.specs.declared.error.kind.ErrorKind.TheVariants.{OutOfMemory}
 use Rattle.clap.proofs.WalkLemmas.{first_value-rows}
-use Rattle.rb_words.specs.Given.{three_given, two_given, with_three, with_two}
+use Rattle.rb_words.specs.Given.{three_given, two_given, with_last, with_three, with_two}
 use Rattle.rb_words.specs.Plain.{is_plain_word}
 use Rattle.rb_words.proofs.Leaves.{fault_at, leaf, no_fault, some_fault}
 use Rattle.rb_words.proofs.Leaves.{one-few, one-many, one-takes, one-value, two-few, two-many, two-none, two-takes, two-values}
+use Rattle.rb_words.proofs.Leaves.{fault_at_last, last-left_out, last-many, last-none, last-takes, last-value, last-values, leaf_and_last}
 use Rattle.rb_words.proofs.Leaves.{three-few, three-fewer, three-many, three-none, three-takes, three-values}
 
 module _ {R : Type 0} (program : App) (request_given : Text → (Text → Option Text) → Option R) (request_of : List Text → Option R) where
@@ -119,6 +120,38 @@ module _ {R : Type 0} (program : App) (request_given : Text → (Text → Option
         let second = and_parts _ _ first.1 in
         refused (some_fault _ _ _ _ (fault (a ∷ b ∷ more)) (one-many name i same a b more first.0 second.0))
         (beyond a b more plain)
+
+  -- a command that takes one word, and a second that may be left out
+  module _ (name i j : Text) (of : Text → Option Text → Option R) (first : bytes_eq i i ≡ true) (second : bytes_eq j j ≡ true)
+      (ahead : bytes_eq i j ≡ false) (behind : bytes_eq j i ≡ false)
+      (fault : (words : List Text) → fault_of program (name ∷ words) ≡ or_else (fault_at_last name i j words) [])
+      (values : (words : List Text) → subcommand_of program (name ∷ words) ≡ Some (name, rows_after (leaf_and_last name i j).rules [] words))
+      (gives : (given : Text → Option Text) → request_given name given ≡ option_and_then (λ a. of a (given j)) (given i))
+      (form : (words : List Text) → list_all is_plain_word words ≡ true → request_of (name ∷ words) ≡ with_last of words) where
+    pub last_agrees : (words : List Text) → list_all is_plain_word words ≡ true → Agrees (name ∷ words)
+    last_agrees [] plain = refused (some_fault _ _ _ _ (fault []) (last-none name i j first second ahead behind)) (form [] plain)
+    last_agrees (a ∷ []) plain =
+        let one = and_parts _ _ plain in
+        let given : Text → Option Text = λ id. first_of id (rows_after (leaf_and_last name i j).rules [] (a ∷ [])) in
+        let read = last-value name i j first second ahead behind a one.0 in
+        let found : found_in (subcommand_of program (name ∷ a ∷ [])) ≡ of a None =
+        ap found_in (values (a ∷ [])) ∙ gives given ∙ ap (option_and_then (λ x. of x (given j))) read.0 ∙ ap (of a) read.1 in
+        taken (no_fault _ _ (fault (a ∷ [])) (last-left_out name i j first second ahead behind a one.0)) (found ∙ sym (form (a ∷ []) plain))
+    last_agrees (a ∷ b ∷ []) plain =
+        let one = and_parts _ _ plain in
+        let other = and_parts _ _ one.1 in
+        let given : Text → Option Text = λ id. first_of id (rows_after (leaf_and_last name i j).rules [] (a ∷ b ∷ [])) in
+        let read = last-values name i j first second ahead behind a b one.0 other.0 in
+        let found : found_in (subcommand_of program (name ∷ a ∷ b ∷ [])) ≡ of a (Some b) =
+        ap found_in (values (a ∷ b ∷ [])) ∙ gives given ∙ ap (option_and_then (λ x. of x (given j))) read.0 ∙ ap (of a) read.1 in
+        taken (no_fault _ _ (fault (a ∷ b ∷ [])) (last-takes name i j first second ahead behind a b one.0 other.0))
+        (found ∙ sym (form (a ∷ b ∷ []) plain))
+    last_agrees (a ∷ b ∷ c ∷ more) plain =
+        let one = and_parts _ _ plain in
+        let other = and_parts _ _ one.1 in
+        let third = and_parts _ _ other.1 in
+        refused (some_fault _ _ _ _ (fault (a ∷ b ∷ c ∷ more)) (last-many name i j first second ahead behind a b c more one.0 other.0 third.0))
+        (form (a ∷ b ∷ c ∷ more) plain)
 
   -- the first word is a name of which this is known
   module _ (name : Text) (words : List Text) (plain : list_all is_plain_word (name ∷ words) ≡ true) where

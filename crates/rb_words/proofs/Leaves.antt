@@ -8,6 +8,7 @@ use Rattle.clap.specs.Lexer.{long_of, short_of}
 use Rattle.clap.specs.Walk.{Held, Names, Rule, Row, Text, Walk, arg_by_index, first_of, idle, nothing_held, rows_after}
 use Rattle.clap.specs.Walk.{subcommand_met, to_positional, value, walked, word_met}
 use Rattle.clap.specs.Simple.{Shape, filled_from, new_shape, subcommand_rows, with_rule}
+use Rattle.clap.specs.Words.{new_rule}
 use Rattle.std.specs.Box.{box_value}
 use Rattle.clap.specs.Kinds.{Kinds, or_else}
 use Rattle.clap.specs.declared.parser.matches.SubCommand.{SubCommand}
@@ -146,6 +147,71 @@ module _ (name i j : Text) (first : bytes_eq i i ≡ true) (second : bytes_eq j 
         turn [] (held_at [] i a) 2 b plain' refl two,
         second_of_two a b plain',
         turn [] (held_at (row_of i a ∷ []) j b) 3 c plain'' refl two,
+      ) (simp (first, ahead))
+
+-- one that takes one, and a second that may be left out, as `clap` completes it
+abbrev pub leaf_and_last : Text → Text → Text → Shape
+leaf_and_last name i j = record (new_shape name) {
+  rules = filled_from 1 (required_word i ∷ new_rule j ∷ []);
+  no_binary_name = true;
+  disable_help_flag = true;
+  disable_help_subcommand = true;
+  is_built = true;
+}
+
+abbrev pub fault_at_last : Text → Text → Text → List Text → Kinds
+fault_at_last name i j words = level_fault (leaf_and_last name i j) [] nothing_held words false []
+
+module _ (name i j : Text) (first : bytes_eq i i ≡ true) (second : bytes_eq j j ≡ true) (ahead : bytes_eq i j ≡ false)
+    (behind : bytes_eq j i ≡ false) where
+  abbrev pub last : Shape
+  last = leaf_and_last name i j
+
+  pub first_before_last : (a : Text) → is_plain_word a ≡ true → walked last.rules [] (standing nothing_held 1) a ≡ standing (held_at [] i a) 2
+  first_before_last a plain = next [] nothing_held 1 a plain refl last.rules
+
+  pub last_behind : (a b : Text) → is_plain_word b ≡ true
+      → walked last.rules [] (standing (held_at [] i a) 2) b ≡ standing (held_at (row_of i a ∷ []) j b) 3
+  last_behind a b plain = next [] (held_at [] i a) 2 b plain refl last.rules ∙ simp (first, ahead)
+
+  pub last-value : (a : Text) → is_plain_word a ≡ true →
+      (first_of i (rows_after last.rules [] (a ∷ [])) ≡ Some a) × (first_of j (rows_after last.rules [] (a ∷ [])) ≡ None)
+  last-value a plain = (
+    rw (first_before_last a plain) (simp (first, ahead, behind)),
+    rw (first_before_last a plain) (simp (first, ahead, behind)),
+  )
+
+  pub last-values : (a b : Text) → is_plain_word a ≡ true → is_plain_word b ≡ true →
+      (first_of i (rows_after last.rules [] (a ∷ b ∷ [])) ≡ Some a) × (first_of j (rows_after last.rules [] (a ∷ b ∷ [])) ≡ Some b)
+  last-values a b plain plain' = (
+    rw (first_before_last a plain, last_behind a b plain') (simp (first, second, ahead, behind)),
+    rw (first_before_last a plain, last_behind a b plain') (simp (first, second, ahead, behind)),
+  )
+
+  pub last-none : fault_at_last name i j [] ≡ MissingRequiredArgument ∷ []
+  unfolding clap_on_literals
+  last-none = refl
+
+  pub last-left_out : (a : Text) → is_plain_word a ≡ true → fault_at_last name i j (a ∷ []) ≡ []
+  unfolding walk_fault defaults_fault
+  last-left_out a plain = rw (turn [] nothing_held 1 a plain refl last, first_before_last a plain) (simp (first, ahead, behind))
+
+  pub last-takes : (a b : Text) → is_plain_word a ≡ true → is_plain_word b ≡ true → fault_at_last name i j (a ∷ b ∷ []) ≡ []
+  unfolding walk_fault defaults_fault
+  last-takes a b plain plain' =
+      rw (turn [] nothing_held 1 a plain refl last, first_before_last a plain, turn [] (held_at [] i a) 2 b plain' refl last, last_behind a b plain')
+      (simp (first, second, ahead, behind))
+
+  pub last-many : (a b c : Text) (more : List Text) → is_plain_word a ≡ true → is_plain_word b ≡ true → is_plain_word c ≡ true →
+      fault_at_last name i j (a ∷ b ∷ c ∷ more) ≡ UnknownArgument ∷ []
+  unfolding walk_fault
+  last-many a b c more plain plain' plain'' =
+      rw (
+        turn [] nothing_held 1 a plain refl last,
+        first_before_last a plain,
+        turn [] (held_at [] i a) 2 b plain' refl last,
+        last_behind a b plain',
+        turn [] (held_at (row_of i a ∷ []) j b) 3 c plain'' refl last,
       ) (simp (first, ahead))
 
 -- one that takes three

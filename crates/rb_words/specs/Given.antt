@@ -7,6 +7,13 @@ with_one of [] = None
 with_one of (a ∷ []) = Some (of a)
 with_one of (a ∷ b ∷ more) = None
 
+-- one that takes one, and a second that may be left out
+abbrev pub with_last : {R : Type 0} → (List ℕ → Option (List ℕ) → Option R) → List (List ℕ) → Option R
+with_last of [] = None
+with_last of (a ∷ []) = of a None
+with_last of (a ∷ b ∷ []) = of a (Some b)
+with_last of (a ∷ b ∷ c ∷ more) = None
+
 -- one that takes two
 abbrev pub with_two : {R : Type 0} → (List ℕ → List ℕ → R) → List (List ℕ) → Option R
 with_two of [] = None
