@@ -1,15 +1,13 @@
 -- From what was read and judged, and what was written, to the answer of the call, for every way to judge.
-use Rattle.std.proofs.Common.{◌≡◌, ◌⊎◌, ℕ, List, [], ◌∷◌, ◌++◌, length, Option, Some, None, Result, Ok, Err, refl, sym, ap, subst, ◌∙◌, inl, inr}
-use Rattle.rb_outside.specs.declared.Failed.{Failed}
-use Rattle.rb_outside.specs.Outside.{File, Faults, Start, WrotePart, failed_once, then_written}
-use Rattle.rb_outside.specs.Puts.{Puts}
+use Rattle.std.proofs.Common.{◌≡◌, ℕ, List, [], Option, Some, Result, Ok, Err, refl, sym, ap, subst, ◌∙◌, inl, inr}
+use Rattle.rb_outside.specs.Outside.{File, Faults, Start, then_written}
 use Rattle.rb_hall.specs.declared.fault.Fault.{Fault}
 use Rattle.rb_hall.specs.declared.outcome.Refusal.{Refusal}
 use Rattle.rb_hall.specs.declared.outcome.Outcome.TheVariants as out
 use Rattle.rb_hall.specs.declared.command.Unwritten.{Unwritten}
 use Rattle.rb_hall.specs.declared.command.Unwritten.TheVariants as unwritten
-use Rattle.rb_hall.specs.Judgement.{Explained, Explaining, Judgement, Judging, ReadsOn, RefusedWith, Writes, Wants, Limited, as_judged, line_of}
-use Rattle.rb_hall.specs.Answers.{Scene, HasReadIn, EndedIn, IsOfLast, RefusesIn, ReadFailsIn, RanOutIn, ReadAll, WritesNothing, WritesFront, WouldWrite, its_text, its_line, Answers}
+use Rattle.rb_hall.specs.Judgement.{Explained, Explaining, Judging, RefusedWith, Writes, Wants, Limited, as_judged, line_of}
+use Rattle.rb_hall.specs.Answers.{Scene, EndedIn, IsOfLast, RefusesIn, ReadAll, its_text, its_line, Answers}
 use Rattle.rb_hall.specs.Ends.{EndsAfter, IsRefused, WriteEnds}
 use Rattle.rb_hall.specs.declared.outcome.Outcome.{Outcome}
 use Rattle.rb_hall.proofs.Driving.{ends_short}

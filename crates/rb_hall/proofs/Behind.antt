@@ -8,7 +8,7 @@ use Rattle.rb_hall.specs.declared.outcome.Outcome.{Outcome}
 use Rattle.rb_hall.specs.declared.outcome.Outcome.TheVariants as out
 use Rattle.rb_hall.specs.Judgement.{Explaining, Judging, Wants, line_of}
 use Rattle.rb_hall.specs.Answers.{Scene, Answers, WritesAll, WritesPart, WritesNothing, WritesFront, WouldWrite, its_text, its_line}
-use Rattle.rb_hall.specs.Complete.{IsUnhindered, EndsAs, EndsAsJudged, IsComplete}
+use Rattle.rb_hall.specs.Complete.{IsUnhindered, EndsAs, IsComplete}
 use Rattle.rb_hall.specs.Ending.{IsUnwritten, SeenBehind, EndsBehind, Finishes}
 use Rattle.rb_hall.proofs.Complete.{completed}
 use Rattle.rb_hall.proofs.Driving.{short_at_once}

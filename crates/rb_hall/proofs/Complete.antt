@@ -1,13 +1,13 @@
 -- From the answers of a call, each with its cause, to their completeness: where no cause of a fault is there, the call ends as the verdict says.
-use Rattle.std.proofs.Common.{◌≡◌, ◌⊎◌, ℕ, List, [], ◌∷◌, ◌++◌, Option, Some, None, refl, sym, ap, subst, ◌∙◌, inl, inr, arith, append_assoc}
+use Rattle.std.proofs.Common.{◌≡◌, ℕ, List, [], ◌∷◌, ◌++◌, Option, Some, None, refl, sym, ap, subst, ◌∙◌, inl, inr, arith, append_assoc}
 use Rattle.rb_outside.specs.Outside.{File, Start, Faults, Rose, bytes_of, failed_once, then_written}
 use Rattle.rb_outside.specs.Outside as outside
 use Rattle.rb_hall.specs.declared.outcome.Refusal.{Refusal}
 use Rattle.rb_hall.specs.declared.outcome.Outcome.{Outcome}
 use Rattle.rb_hall.specs.declared.outcome.Outcome.TheVariants as out
 use Rattle.rb_hall.specs.Judgement.{Explaining, Judgement, Judging, RefusedWith, Writes, EndsBy, refused_here, written_here, later, Wants, line_of}
-use Rattle.rb_hall.specs.Answers.{Scene, HasRead, nothing_yet, one_more, EndedIn, RefusesIn, StoppedByMissing, StoppedByMissingIn, ReadFailsIn, by_fault, by_missing, Answers}
-use Rattle.rb_hall.specs.Complete.{AreStored, IsComplete, IsUnhindered, EndsAsJudged}
+use Rattle.rb_hall.specs.Answers.{Scene, HasRead, nothing_yet, one_more, EndedIn, RefusesIn, StoppedByMissing, StoppedByMissingIn, by_fault, by_missing, Answers}
+use Rattle.rb_hall.specs.Complete.{AreStored, IsComplete}
 
 -- ---- the texts that were read, against those that stand on the shelf
 

@@ -1,12 +1,11 @@
 -- From what was read of a file to how the reading of all texts stands, for every way to judge.
 use Rattle.std.proofs.Common.{◌≡◌, ◌⊎◌, ℕ, zero, suc, ◌+◌, ◌-◌, ◌<◌, ◌≤◌, true, false, List, [], ◌∷◌, ◌++◌, length, take, drop, slice_get, Option, Some, None, refl, sym, ap, subst, ◌∙◌, inl, inr, Bool, arith, length-append, add-one}
 use Rattle.std.proofs.lemmas.List.{take_all}
-use Rattle.std.proofs.lemmas.Bool.{cases_lt}
 use Rattle.rb_outside.specs.Outside.{File, Faults, Start, bytes_of, named, failed_once, was_missing}
 use Rattle.rb_hall.specs.declared.fault.Fault.{Fault}
 use Rattle.rb_hall.specs.declared.fault.Fault.TheVariants.{Long}
 use Rattle.rb_hall.specs.declared.outcome.Refusal.{Refusal}
-use Rattle.rb_hall.specs.Judgement.{Explained, Explaining, Judgement, Judging, ReadsOn, RefusedWith, Writes, Wants, AreShort, none_yet, one_short, Limited, as_judged, too_long}
+use Rattle.rb_hall.specs.Judgement.{Explained, Explaining, Judging, ReadsOn, RefusedWith, Wants, AreShort, none_yet, one_short, Limited, as_judged, too_long}
 use Rattle.rb_hall.specs.Ends.{HoldsOn, MayTake}
 use Rattle.rb_hall.specs.Answers.{piece_bytes, IsRead, HasRead, nothing_yet, one_more, HasReadSince, HasReadUntold, none_read, one_read, HasReadIn, IsFront, IsFrontIn, IsOfLast, of_none, of_last, RefusesIn, StoppedAt, StoppedByFault, StoppedByMissing, RanOut, between, RanOutIn, ReadFailsIn, by_fault, by_missing, ReadAll}
 use Rattle.rb_hall.specs.Answers as answers

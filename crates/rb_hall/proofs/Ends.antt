@@ -1,5 +1,5 @@
 -- How a command ends once it writes: from one way to judge its texts, and to know of their faults, to another.
-use Rattle.std.proofs.Common.{◌≡◌, ◌⊎◌, ℕ, List, Option, Result, Ok, Err, inl, inr}
+use Rattle.std.proofs.Common.{ℕ, List, Option, Result, Ok, Err, inl, inr}
 use Rattle.rb_outside.specs.Outside.{Faults}
 use Rattle.rb_outside.specs.Puts.{Puts}
 use Rattle.rb_hall.specs.declared.fault.Fault.{Fault}

@@ -1,5 +1,5 @@
 -- When a command ends as the verdict on its texts says: it answers a fault only where there was one.
-use Rattle.std.specs.Prelude.{◌≡◌, ◌⊎◌, ℕ, List, [], ◌∷◌, ◌++◌, Option, Some, None}
+use Rattle.std.specs.Prelude.{◌≡◌, ◌⊎◌, ℕ, List, [], ◌∷◌, ◌++◌, Option, Some}
 use Rattle.rb_outside.specs.Outside.{File, Rose, bytes_of}
 use Rattle.rb_hall.specs.Judgement.{Judgement, Judging, ReadsOn, RefusedWith, Writes, EndsBy, Wants, line_of}
 use Rattle.rb_hall.specs.Answers.{Scene}

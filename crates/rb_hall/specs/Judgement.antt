@@ -1,5 +1,5 @@
 -- What a command makes of the texts that it has read: its one text, a refusal, or the wish for its next file. All of it is this project's own.
-use Rattle.std.specs.Prelude.{◌≡◌, ℕ, ◌+◌, ◌<◌, ◌≤◌, List, [], ◌∷◌, ◌++◌, length, codes, decimal, Option, Some, None}
+use Rattle.std.specs.Prelude.{◌≡◌, ℕ, ◌<◌, ◌≤◌, List, [], ◌∷◌, ◌++◌, length, codes, decimal, Option, Some, None}
 use Rattle.rb_base.specs.declared.fault.SourceFault.{SourceFault}
 use Rattle.rb_base.specs.declared.fault.TextFault.{TextFault}
 use Rattle.rb_base.specs.Words.{fault_word}
@@ -44,6 +44,10 @@ text_line fault = codes "refused " ++ (fault_word fault.name ++ (codes " at " ++
 abbrev pub stuck_line : ℕ → List ℕ
 stuck_line turn = codes "refused V4 at " ++ (decimal turn ++ codes "\n")
 
+-- the line where words ask for an outcome of a number that the program has not
+abbrev pub missing_line : ℕ → List ℕ
+missing_line number = codes "no outcome " ++ (decimal number ++ codes "\n")
+
 -- the line that a refusal for this fault is told with
 abbrev pub line_of : Fault → List ℕ
 line_of (of.Source fault) = source_line fault
@@ -52,6 +56,7 @@ line_of (of.Stuck turn) = stuck_line turn
 line_of of.NoImage = codes "refused I1\n"
 line_of of.Unsound = codes "refused I2\n"
 line_of of.Long = codes "refused L0\n"
+line_of (of.NoOutcome number) = missing_line number
 
 -- These texts were read of these files, each no longer than its file may be, and these files are left.
 pub data AreShort (wanted : List Wants) : List (List ℕ) → List Wants → Type 0 where

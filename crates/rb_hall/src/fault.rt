@@ -1,7 +1,7 @@
 //! Why a text is refused, as a value.
 ghost use Rattle.std.specs.Prelude.{◌≡◌, ◌++◌, codes};
 ghost use Rattle.rb_outside.specs.Puts.{Puts};
-ghost use Rattle.rb_hall.specs.Judgement.{line_of, source_line, stuck_line, text_line};
+ghost use Rattle.rb_hall.specs.Judgement.{line_of, missing_line, source_line, stuck_line, text_line};
 
 use itoa::Buffer;
 use rb_base::{SourceFault, TextFault};
@@ -23,6 +23,8 @@ pub enum Fault {
     Unsound,
     /// The text is longer than its file may be.
     Long,
+    /// Words ask for the outcome of this number, and the program has none.
+    NoOutcome(u64),
 }
 
 impl Fault {
@@ -37,6 +39,7 @@ impl Fault {
             Fault::NoImage => put_all(out, b"refused I1\n"),
             Fault::Unsound => put_all(out, b"refused I2\n"),
             Fault::Long => put_all(out, b"refused L0\n"),
+            Fault::NoOutcome(number) => put_missing(out, number),
         }
     }
 }
@@ -94,4 +97,18 @@ fn put_turn<S: Sink>(out: &mut S, turn: &[u8]) -> Result<(), Failed>
         (S.faults out.old) (S.faults out.new) result }
 {
     put_pieces(out, &[b"refused V4 at ", turn, b"\n"])
+}
+
+fn put_missing<S: Sink>(out: &mut S, number: u64) -> Result<(), Failed>
+    ensures { Puts (missing_line number) (S.written out.old) (S.written out.new) (S.faults out.old) (S.faults out.new) result }
+{
+    let mut digits = Buffer::new();
+    put_number(out, digits.format(number).as_bytes())
+}
+
+fn put_number<S: Sink>(out: &mut S, number: &[u8]) -> Result<(), Failed>
+    ensures { Puts (codes "no outcome " ++ (number.now ++ codes "\n")) (S.written out.old) (S.written out.new)
+        (S.faults out.old) (S.faults out.new) result }
+{
+    put_pieces(out, &[b"no outcome ", number, b"\n"])
 }

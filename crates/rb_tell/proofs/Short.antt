@@ -25,6 +25,7 @@ short_text (of.Text fault) bytes few = few
 short_text (of.Stuck turn) bytes few = few
 short_text of.NoImage bytes few = tt
 short_text of.Unsound bytes few = tt
+short_text (of.NoOutcome number) bytes few = tt
 short_text of.Long bytes few = tt
 
 -- of a refused image nothing is looked at

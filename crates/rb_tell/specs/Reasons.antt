@@ -1,5 +1,5 @@
 -- Why a text was refused, in words.
-use Rattle.std.specs.Prelude.{◌≡◌, ℕ, ◌≤◌, List, [], length, codes, Option, Some, None}
+use Rattle.std.specs.Prelude.{◌≡◌, ◌++◌, ℕ, ◌≤◌, List, [], length, codes, Option, Some, None}
 use Rattle.rb_base.specs.Words.{fault_word}
 use Rattle.rb_base.specs.declared.fault.FaultName.TheVariants.{I1, I2, V4}
 use Rattle.rb_base.specs.declared.limits.TheConstants.{MOST_BYTES}
@@ -15,11 +15,12 @@ use Rattle.rb_hall.specs.declared.outcome.Refusal.{Refusal}
 use Rattle.rb_commands.specs.declared.why.Why.{Why}
 use Rattle.rb_commands.specs.declared.why.Why.TheVariants as why
 
--- what was read is no longer than a text may be; or nothing of it is looked at for the reason, as of an image and of what is too long
+-- what was read is no longer than a text may be; or nothing of it is looked at for the reason, as of an image, of what is too long, and of a number
 abbrev pub IsShort : Fault → List ℕ → Type 0
 IsShort of.Long text = Unit {0}
 IsShort of.NoImage text = Unit {0}
 IsShort of.Unsound text = Unit {0}
+IsShort (of.NoOutcome number) text = Unit {0}
 IsShort fault text = length text ≤ MOST_BYTES
 
 -- the names of the program, where they are known
@@ -32,6 +33,10 @@ abbrev pub IsStuckReason : List ℕ → List ℕ → Option Why → List ℕ →
 IsStuckReason file text (Some (why.Stuck found names)) told = told ≡ stuck_told file text names found.kept found.cause
 IsStuckReason file text known told = told ≡ framed_alone file (fault_word V4) (sentence V4 [])
 
+-- that the program in a file has no outcome of the number that was asked for, and which command lists those that it has
+abbrev pub missing_told : List ℕ → List ℕ
+missing_told file = file ++ (codes ": it has no outcome of this number\nnext: rblview explore " ++ (file ++ codes "\n"))
+
 -- why a text of a file of this name was refused for a fault
 abbrev pub IsReasonOf : List ℕ → Fault → List ℕ → Option Why → List ℕ → Type 0
 IsReasonOf file (of.Source fault) text known told = IsReason file text fault told
@@ -40,6 +45,7 @@ IsReasonOf file (of.Stuck turn) text known told = IsStuckReason file text known 
 IsReasonOf file of.NoImage text known told = told ≡ framed_alone file (fault_word I1) (sentence I1 [])
 IsReasonOf file of.Unsound text known told = told ≡ framed_alone file (fault_word I2) (sentence I2 [])
 IsReasonOf file of.Long text known told = told ≡ framed_alone file (codes "L0") long_words
+IsReasonOf file (of.NoOutcome number) text known told = told ≡ missing_told file
 
 -- the same of a refusal, with the bytes that it keeps and what it knows
 abbrev pub IsReasonFor : List ℕ → Refusal Why → List ℕ → Type 0

@@ -1,6 +1,6 @@
 //! Why a text was refused, in words, by its fault, its bytes as they were read, and what is known beside.
 ghost use Rattle.std.specs.Prelude.{◌≡◌, ◌≤◌, false, length, IfOk, IsTrue, option_map};
-ghost use Rattle.rb_tell.specs.Reasons.{IsReasonFor, IsShort, IsStuckReason, names_of};
+ghost use Rattle.rb_tell.specs.Reasons.{IsReasonFor, IsShort, IsStuckReason, missing_told, names_of};
 
 use rb_base::{FaultName, MOST_BYTES, Memory, Names};
 use rb_commands::Why;
@@ -20,6 +20,7 @@ pub fn reason_of(alloc: Global, file: &[u8], refusal: &Refusal<'_, Why>) -> Resu
         Fault::NoImage => file_reason(alloc, file, FaultName::I1),
         Fault::Unsound => file_reason(alloc, file, FaultName::I2),
         Fault::Long => long_reason(alloc, file),
+        Fault::NoOutcome(_) => missing_reason(alloc, file),
     }
 }
 
@@ -29,9 +30,21 @@ pub fn is_short(refusal: &Refusal<'_, Why>) -> bool
     ensures long { result ≡ false → IsShort refusal.now.fault refusal.now.text.now → ⊥ }
 {
     match refusal.fault {
-        Fault::NoImage | Fault::Unsound | Fault::Long => true,
+        Fault::NoImage | Fault::Unsound | Fault::Long | Fault::NoOutcome(_) => true,
         Fault::Source(_) | Fault::Text(_) | Fault::Stuck(_) => refusal.text.len() <= MOST_BYTES,
     }
+}
+
+// That the program in a file has no outcome of the number that was asked for.
+fn missing_reason(alloc: Global, file: &[u8]) -> Result<Vec<u8>, Memory>
+    ensures { IfOk result (λ told. told.items ≡ missing_told file.now) }
+{
+    let mut told = Vec::new(alloc);
+    told.extend_from_slice(file)?;
+    told.extend_from_slice(b": it has no outcome of this number\nnext: rblview explore ")?;
+    told.extend_from_slice(file)?;
+    told.extend_from_slice(b"\n")?;
+    Ok(told)
 }
 
 // The names of the program, where they are known.

@@ -1,9 +1,8 @@
-use Rattle.std.proofs.Common.{◌≡◌, ◌∙◌, refl, sym, subst, arith, ℕ, List, Option, add-one, ap, ◌+◌}
-use Rattle.rb_outside.specs.Outside.{File}
+use Rattle.std.proofs.Common.{◌∙◌, refl, sym, subst, arith, ap, ◌+◌}
 use Rattle.rb_hall.specs.Ends.{wanted_of}
-use Rattle.rb_hall.specs.Read.{WasReadIn, StandsAtIn, StopsForFaultIn}
+use Rattle.rb_hall.specs.Read.{StandsAtIn, StopsForFaultIn}
 use Rattle.rb_hall.specs.Answers.{piece_bytes}
-use Rattle.rb_hall.proofs.Driving.{Reading, begun, short_at_once, taken, read_on, refused_at, unjudged, unread_for_fault, unread_for_memory, all_read, read_here, at_next, none_wanted}
+use Rattle.rb_hall.proofs.Driving.{begun, short_at_once, taken, read_on, refused_at, unjudged, unread_for_fault, unread_for_memory, all_read, read_here, at_next, none_wanted}
 use Rattle.rb_hall.proofs.driver.gather.Goals as goal
 
 pub returns-in_default-clause-stopped : goal.returns-in_default-clause-stopped

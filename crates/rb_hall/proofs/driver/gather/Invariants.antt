@@ -1,4 +1,4 @@
-use Rattle.std.proofs.Common.{◌≡◌, ℕ, []}
+use Rattle.std.proofs.Common.{◌≡◌, []}
 use Rattle.rb_hall.proofs.Driving.{Reading}
 use Rattle.rb_hall.proofs.driver.gather.Given as goal
 
