@@ -1,6 +1,6 @@
-mod CommandLine
+mod Ends
+mod Exploring
 mod Held
 mod Putting
 mod Ready
 mod Wishes
-pub mod Files

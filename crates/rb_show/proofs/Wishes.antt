@@ -6,20 +6,20 @@ use Rattle.rb_outside.specs.Outside.{Faults, File, Start, went_well}
 use Rattle.rb_reasons.specs.Names.{name_of, names}
 use Rattle.rb_hall.specs.declared.outcome.Outcome.TheVariants as out
 use Rattle.rb_hall.proofs.Behind.{ends_without_memory}
-use Rattle.rb_verdict.specs.Judging.{JudgesWithin, TakesWhileWriting}
-use Rattle.rb_verdict.specs.Words.{Request, usage_of}
+use Rattle.rb_asking.specs.Views.{View, Explains, Explores, Pages, Traces}
+use Rattle.rb_verdict.specs.Judging.{TakesWhileWriting}
+use Rattle.rb_verdict.specs.Words.{page_of, trace_of, usage_of}
 use Rattle.rb_tell.specs.declared.end.Telling.TheVariants.{Nothing}
 use Rattle.rb_show.specs.Entrance.{WishedEnds}
-use Rattle.rb_show.specs.Wished.{Explained, IsWished, explain_of, explains_of}
-use Rattle.rb_show.specs.Words.{Wish, Draws, Explains, usage_line}
+use Rattle.rb_show.specs.Wished.{Carries, Explained, IsWished, Searches, Task, explain_of, explains_of, judges_of, request_of, usage_line}
 
 -- a text of this name was found
-pub explained_by : (found : Option (List ℕ)) (text : List ℕ) → Some (name_of text) ≡ found → Explained found (explain_of text)
-explained_by found text is = subst (λ (o : Option (List ℕ)). Explained o (explain_of text)) is (text, refl, refl)
+pub explained_by : (found : Option (List ℕ)) (text : List ℕ) → Some (name_of text) ≡ found → Explained found (Carries (explain_of text))
+explained_by found text is = subst (λ (o : Option (List ℕ)). Explained o (Carries (explain_of text))) is (text, refl, refl)
 
 -- or none
-pub explained_none : (found : Option (List ℕ)) (request : Request) → None ≡ found → request ≡ usage_of usage_line → Explained found request
-explained_none found request is shows = subst (λ (o : Option (List ℕ)). Explained o request) is shows
+pub explained_none : (found : Option (List ℕ)) (task : Task) → None ≡ found → task ≡ Carries (usage_of usage_line) → Explained found task
+explained_none found task is shows = subst (λ (o : Option (List ℕ)). Explained o task) is shows
 
 -- ---- where memory was wanting to read the words
 
@@ -31,37 +31,40 @@ both : (a b : Bool) → (a && b) ≡ true → (a ≡ true) × (b ≡ true)
 both true b e = (refl, e)
 both false b e = absurd (cc)
 
-found_or : (hit : Bool) (name : List ℕ) (rest : Option (List ℕ)) → name_of name ≡ name → (request : Request) × Explained rest request
-    → (request : Request) × Explained (cond hit (Some name) rest) request
-found_or true name rest is later = (explain_of name, (name, is, refl))
+found_or : (hit : Bool) (name : List ℕ) (rest : Option (List ℕ)) → name_of name ≡ name → (task : Task) × Explained rest request
+    → (task : Task) × Explained (cond hit (Some name) rest) request
+found_or true name rest is later = (Carries (explain_of name), (name, is, refl))
 found_or false name rest is later = later
 
-explained_in : (test : List ℕ → Bool) (words : List (List ℕ)) → list_all is_its_name words ≡ true → (request : Request) × Explained (find test words) request
-explained_in test [] all = (usage_of usage_line, refl)
+explained_in : (test : List ℕ → Bool) (words : List (List ℕ)) → list_all is_its_name words ≡ true → (task : Task) × Explained (find test words) request
+explained_in test [] all = (Carries (usage_of usage_line), refl)
 explained_in test (word ∷ words) all =
     let each = both (is_its_name word) (list_all is_its_name words) all in
     found_or (test word) word (find test words) (same_text (name_of word) word (sym each.0)) (explained_in test words each.1)
 
--- something is carried out for each wish
-wished_request : (wish : Option Wish) → (request : Request) × IsWished wish request
-wished_request None = (usage_of usage_line, refl)
-wished_request (Some (Explains name)) = explained_in (λ word. pointwise nat_eq word name) names refl
-wished_request (Some (Draws request)) = (request, refl)
+-- something is carried out whatever is asked for
+wished_task : (view : Option View) → (task : Task) × IsWished view task
+wished_task None = (Carries (usage_of usage_line), refl)
+wished_task (Some (Explains name)) = explained_in (λ word. pointwise nat_eq word name) names refl
+wished_task (Some (Traces source schedule)) = (Carries (trace_of source schedule), refl)
+wished_task (Some (Pages page source schedule)) = (Carries (page_of page source schedule), refl)
+wished_task (Some (Explores source number)) = (Searches source number, refl)
 
-pub wished_without_memory : (wish : Option Wish) (files : Option (List File)) (starts : List Start) (r f : Faults) (w : Option (List ℕ))
+pub wished_without_memory : (view : Option View) (files : Option (List File)) (starts : List Start) (r f : Faults) (w : Option (List ℕ))
     (told : Option (List ℕ)) (faults : Faults)
-    → WishedEnds wish
+    → WishedEnds view
     (record { files = files; starts = starts; read_faults = r; written = w; write_faults = went_well f })
     (record { files = files; starts = starts; read_faults = r; written = w; write_faults = f })
     told told faults faults 5 Nothing
-wished_without_memory wish files starts r f w told faults =
-    let (request, is) = wished_request wish in (
-      request,
+wished_without_memory view files starts r f w told faults =
+    let (task, is) = wished_task view in
+    let request = request_of task in (
+      task,
       is,
       record {
         outcome = out.Memory;
         is = refl;
-        ends = ends_without_memory (JudgesWithin request) (explains_of request.command) request.files (TakesWhileWriting request.command)
+        ends = ends_without_memory (judges_of task) (explains_of request.command) request.files (TakesWhileWriting request.command)
             files starts r f w;
         untouched = λ none. (refl, refl);
         tells = (refl, (refl, refl));

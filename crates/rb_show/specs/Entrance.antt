@@ -1,18 +1,26 @@
 -- How the program ends: its exit status, what stands at its sink, and what standard error is told.
-use Rattle.std.specs.Prelude.{ℕ, List, codes, Option}
+use Rattle.std.specs.Prelude.{◌≡◌, ℕ, List, [], codes, Option}
+use Rattle.rb_asking.specs.Views.{View}
 use Rattle.rb_outside.specs.Outside.{Faults}
 use Rattle.rb_hall.specs.Answers.{Scene}
-use Rattle.rb_verdict.specs.Words.{Request}
-use Rattle.rb_tell.specs.Entrance.{ProgramEndsSo}
+use Rattle.rb_hall.specs.declared.outcome.Outcome.{Outcome}
+use Rattle.rb_commands.specs.declared.why.Why.{Why}
+use Rattle.rb_tell.specs.Entrance.{file_of, number_of}
+use Rattle.rb_tell.specs.Telling.{Tells}
 use Rattle.rb_tell.specs.declared.end.Telling.{Telling}
-use Rattle.rb_show.specs.Wished.{IsWished, explains_of}
-use Rattle.rb_show.specs.Words.{Wish}
+use Rattle.rb_show.specs.Wished.{IsWished, Task, TaskEnds, request_of}
 
--- so `rblview` ends that carries out this request
-abbrev pub ViewEnds : Request → Scene → Scene → Option (List ℕ) → Option (List ℕ) → Faults → Faults → ℕ → Telling → Type 0
-ViewEnds request = ProgramEndsSo explains_of (codes "rblview") request
+-- So `rblview` ends that carries this out: there is one end with this exit status; it has its cause behind the buffer, comes where nothing outside
+-- stands in the way, and is told on standard error.
+pub record ViewEnds (task : Task) (old new : Scene) (told_old told_new : Option (List ℕ)) (told_before told_after : Faults) (number : ℕ)
+    (telling : Telling) : Type 0 where
+  pub outcome : Outcome Why
+  pub is : number ≡ number_of (request_of task).command outcome
+  pub ends : TaskEnds task old new outcome
+  pub untouched : (request_of task).files ≡ [] → (new.starts ≡ old.starts) × (new.read_faults ≡ old.read_faults)
+  pub tells : Tells (codes "rblview") (file_of (request_of task) outcome) outcome told_old told_new told_before told_after telling
 
--- so it ends for this wish
-abbrev pub WishedEnds : Option Wish → Scene → Scene → Option (List ℕ) → Option (List ℕ) → Faults → Faults → ℕ → Telling → Type 0
-WishedEnds wish old new told_old told_new told_before told_after number telling =
-    (request : Request) × IsWished wish request × ViewEnds request old new told_old told_new told_before told_after number telling
+-- so it ends for words that ask for this
+abbrev pub WishedEnds : Option View → Scene → Scene → Option (List ℕ) → Option (List ℕ) → Faults → Faults → ℕ → Telling → Type 0
+WishedEnds view old new told_old told_new told_before told_after number telling =
+    (task : Task) × IsWished view task × ViewEnds task old new told_old told_new told_before told_after number telling

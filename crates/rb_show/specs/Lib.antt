@@ -1,6 +1,5 @@
-pub mod CommandLine
 pub mod Drawing
 pub mod Entrance
+pub mod Explored
 pub mod Traced
 pub mod Wished
-pub mod Words

@@ -6,8 +6,8 @@ ghost use Rattle.rb_hall.specs.Ending.{IsUnwritten};
 ghost use Rattle.rb_outside.specs.Outside.{went_well};
 ghost use Rattle.rb_tell.specs.Entrance.{file_of, number_of as exit_status};
 ghost use Rattle.rb_show.specs.Entrance.{ViewEnds, WishedEnds};
-ghost use Rattle.rb_show.specs.Wished.{asked};
-ghost use Rattle.rb_show.specs.Words.{wish_of};
+ghost use Rattle.rb_asking.specs.Views.{view_of};
+ghost use Rattle.rb_show.specs.Wished.{request_of, task_of};
 
 use crate::asking::requested;
 use crate::request::{Wish, command};
@@ -34,7 +34,7 @@ pub fn hall<F: Shelf + Blamed, S: Sink + Blamed + Drop, E: Sink>(
 ) -> Left<S>
     requires { IsUnwritten (S.written out) }
     ensures files { F.files shelf.new ≡ F.files shelf.old }
-    ensures ends { WishedEnds (wish_of words.now)
+    ensures ends { WishedEnds (view_of words.now)
         (scene_of F.files F.starts F.faults S.written (λ sink. went_well (S.faults sink)) shelf.old out)
         (scene_of F.files F.starts F.faults S.written S.faults shelf.new result.sink)
         (E.written err.old) (E.written err.new) (E.faults err.old) (E.faults err.new) result.number result.told }
@@ -59,7 +59,7 @@ fn carried<F: Shelf + Blamed, S: Sink + Blamed + Drop, E: Sink>(
 ) -> Left<S>
     requires { IsUnwritten (S.written out) }
     ensures files { F.files shelf.new ≡ F.files shelf.old }
-    ensures ends { ViewEnds (asked wish.entry)
+    ensures ends { ViewEnds (task_of wish.entry)
         (scene_of F.files F.starts F.faults S.written (λ sink. went_well (S.faults sink)) shelf.old out)
         (scene_of F.files F.starts F.faults S.written S.faults shelf.new result.sink)
         (E.written err.old) (E.written err.new) (E.faults err.old) (E.faults err.new) result.number result.told }
@@ -81,7 +81,7 @@ fn carried<F: Shelf + Blamed, S: Sink + Blamed + Drop, E: Sink>(
 
 // The file that an end is about.
 fn file_in<'r>(wish: &'r Wish<'_>, outcome: &Outcome<'_, Why>) -> Option<Wanted<'r>>
-    ensures { option_map wanted_of result ≡ file_of (asked wish.now) outcome.now }
+    ensures { option_map wanted_of result ≡ file_of (request_of (task_of wish.now)) outcome.now }
 {
     match outcome {
         Outcome::Refused(refusal) => wish.file(refusal.number),
@@ -92,7 +92,7 @@ fn file_in<'r>(wish: &'r Wish<'_>, outcome: &Outcome<'_, Why>) -> Option<Wanted<
 
 // The exit status of an end.
 fn number_of(wish: &Wish<'_>, outcome: &Outcome<'_, Why>) -> u8
-    ensures { result ≡ exit_status (asked wish.now).command outcome.now }
+    ensures { result ≡ exit_status (request_of (task_of wish.now)).command outcome.now }
 {
     match outcome {
         Outcome::Done if matches!(wish, Wish::Usage(_)) => 2,

@@ -1,11 +1,14 @@
-//! The program `rblview` from its words to its exit status: what a fault or a cause means, and the trace of a run, by itself or in a page.
+//! The program `rblview` from its words to its exit status: what a fault or a cause means, the trace of a run, by itself or in a page, and what a
+//! program comes to over all schedules.
 #![tactic(auto)]
 
 pub mod asking;
 pub mod entrance;
+pub mod explore;
 pub mod page;
 pub mod put_run;
 pub mod request;
+pub mod searched;
 pub mod trace;
 pub mod traced;
 

@@ -5,8 +5,9 @@ ghost use Rattle.rb_hall.specs.Ends.{wanted_of};
 ghost use Rattle.rb_hall.specs.Ending.{IsUnwritten};
 ghost use Rattle.rb_outside.specs.Outside.{went_well};
 ghost use Rattle.rb_commands.specs.declared.request.TheConstants.{MOST_FILES};
-ghost use Rattle.rb_show.specs.Wished.{WishEnds, asked};
+ghost use Rattle.rb_show.specs.Wished.{TaskEnds, request_of, task_of};
 
+use crate::explore::Explore;
 use crate::page::Page;
 use crate::trace::Trace;
 use rb_commands::Why;
@@ -22,6 +23,7 @@ pub enum Wish<'a> {
     Explain(Saying<'a>),
     Trace(Trace<'a>),
     Page(Page<'a>),
+    Explore(Explore<'a>),
     /// The line that shows the commands, where words ask for nothing.
     Usage(Saying<'a>),
 }
@@ -38,8 +40,8 @@ pub fn command<'s, F: Shelf, S: Sink + Drop>(
     requires unwritten { IsUnwritten (S.written out) }
     requires slots { MOST_FILES ≤ length slots.old }
     ensures files { F.files shelf.new ≡ F.files shelf.old }
-    ensures untouched { (asked wish.entry).files ≡ [] → shelf.new ≡ shelf.old }
-    ensures ends { WishEnds wish.entry
+    ensures untouched { (request_of (task_of wish.entry)).files ≡ [] → shelf.new ≡ shelf.old }
+    ensures ends { TaskEnds (task_of wish.entry)
         (scene_of F.files F.starts F.faults S.written (λ sink. went_well (S.faults sink)) shelf.old out)
         (scene_of F.files F.starts F.faults S.written S.faults shelf.new result.sink)
         result.outcome }
@@ -48,6 +50,7 @@ pub fn command<'s, F: Shelf, S: Sink + Drop>(
         Wish::Explain(saying) => carry_out(alloc, &saying, slots, shelf, out),
         Wish::Trace(trace) => carry_out(alloc, &trace, slots, shelf, out),
         Wish::Page(page) => carry_out(alloc, &page, slots, shelf, out),
+        Wish::Explore(explore) => carry_out(alloc, &explore, slots, shelf, out),
         Wish::Usage(usage) => carry_out(alloc, &usage, slots, shelf, out),
     }
 }
@@ -55,13 +58,14 @@ pub fn command<'s, F: Shelf, S: Sink + Drop>(
 impl Wish<'_> {
     /// The file that it reads after so many.
     pub fn file(&self, number: usize) -> Option<Wanted<'_>>
-        ensures { MatchOption result (length (asked self.now).files ≤ number)
-            (λ file. slice_get (asked self.now).files number ≡ Some (wanted_of file)) }
+        ensures { MatchOption result (length (request_of (task_of self.now)).files ≤ number)
+            (λ file. slice_get (request_of (task_of self.now)).files number ≡ Some (wanted_of file)) }
     {
         match self {
             Wish::Explain(saying) => saying.file(number),
             Wish::Trace(trace) => trace.file(number),
             Wish::Page(page) => page.file(number),
+            Wish::Explore(explore) => explore.file(number),
             Wish::Usage(usage) => usage.file(number),
         }
     }

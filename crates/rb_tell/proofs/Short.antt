@@ -7,7 +7,7 @@ use Rattle.rb_hall.specs.declared.fault.Fault.TheVariants as of
 use Rattle.rb_hall.specs.declared.outcome.Outcome.{Outcome}
 use Rattle.rb_hall.specs.declared.outcome.Outcome.TheVariants as out
 use Rattle.rb_hall.specs.declared.outcome.Refusal.{Refusal}
-use Rattle.rb_hall.specs.Judgement.{Explaining, Judgement, ReadsOn, RefusedWith, Writes, Limited, Wants, as_judged, too_long}
+use Rattle.rb_hall.specs.Judgement.{Explaining, Judgement, Judging, ReadsOn, RefusedWith, Writes, Limited, Wants, as_judged, too_long}
 use Rattle.rb_hall.specs.Answers.{IsFrontIn, IsOfLast, RefusesIn, Scene, of_last, of_none}
 use Rattle.rb_hall.specs.Ending.{EndsBehind}
 use Rattle.rb_hall.proofs.Limits.{AreWithin, read_within}
@@ -36,7 +36,7 @@ of_image image fault bytes (unsound_image program is never) = tt
 -- ---- the last of texts within the limits
 
 -- none of these limits is above that of a text
-abbrev AreSmall : List ℕ → Type 0
+abbrev pub AreSmall : List ℕ → Type 0
 AreSmall [] = Unit {0}
 AreSmall (most ∷ more) = (most ≤ MOST_BYTES) × AreSmall more
 
@@ -109,6 +109,51 @@ image_last files has (one ∷ before) text fault bytes within judged front =
 
 -- ---- of a refusal
 
+-- What is refused of the last text that was read is short: so is what an end tells that it is refused.
+module _ (wanted : List Wants) (judges : Judging)
+    (last : (before : List (List ℕ)) (text : List ℕ) (fault : Fault) (bytes : List ℕ) → AreWithin wanted (before ++ text ∷ [])
+      → judges (before ++ text ∷ []) (RefusedWith fault) → length bytes ≤ length text → IsShort fault bytes) where
+  front_short : (files : Option (List File)) (most : ℕ) (text bytes : List ℕ) → IsFrontIn files most text bytes → length bytes ≤ length text
+  front_short None most text bytes same = omega (arith, ap length same)
+  front_short (Some files) most text bytes front = front.read.within
+
+  kept_short : (files : Option (List File)) (texts : List (List ℕ)) (number : ℕ) (bytes : List ℕ) → IsOfLast files wanted texts number bytes
+      → (fault : Fault) → AreWithin wanted texts → judges texts (RefusedWith fault) → IsShort fault bytes
+  kept_short files texts number bytes (of_none nothing first empty) fault within judged =
+      let few : length bytes ≡ 0 = ap length empty in
+      short_text fault bytes (omega (arith, few))
+  kept_short files texts number bytes (of_last before text next all its stands front) fault within judged =
+      last before text fault bytes (subst (AreWithin wanted) all within)
+      (subst (λ (ts : List (List ℕ)). judges ts (RefusedWith fault)) all judged)
+      (front_short files next.most text bytes front)
+
+  limited_short : (files : Option (List File)) (texts : List (List ℕ)) (judgement : Judgement) → Limited judges wanted texts judgement
+      → (fault : Fault) → judgement ≡ RefusedWith fault → (number : ℕ) (bytes : List ℕ) → IsOfLast files wanted texts number bytes
+      → IsShort fault bytes
+  limited_short files texts judgement (as_judged all rest j short judged) fault refused number bytes keeps =
+      kept_short files texts number bytes keeps fault (read_within wanted texts rest short) (subst (judges texts) refused judged)
+  limited_short files texts judgement (too_long before next rest text short goes long) fault refused number bytes keeps =
+      subst (λ (f : Fault). IsShort f bytes) (same_fault of.Long fault refused) tt
+
+  end_short : (explains : Explaining Why) (takes : Type 0) (old new : Scene) (outcome : Outcome Why)
+      → EndsBehind (Limited judges wanted) explains wanted takes old new outcome → IsShortEnd outcome
+  end_short explains takes old new out.Done ends = tt
+  end_short explains takes old new (out.Refused refusal) ends =
+      let refuses = ends.answers.0 in
+      limited_short old.files refuses.texts (RefusedWith refusal.fault) refuses.judged refusal.fault refl refusal.number refusal.text.now refuses.keeps
+  end_short explains takes old new (out.ReadFault number) ends = tt
+  end_short explains takes old new out.WriteFault ends = tt
+  end_short explains takes old new out.Memory ends = tt
+
+-- whatever is made of texts of files none of which may be longer than a text
+pub small_end : (wanted : List Wants) → AreSmall (map (λ (file : Wants). file.most) wanted) → (judges : Judging) (explains : Explaining Why)
+    (takes : Type 0) (old new : Scene) (outcome : Outcome Why) → EndsBehind (Limited judges wanted) explains wanted takes old new outcome
+    → IsShortEnd outcome
+small_end wanted small judges =
+    end_short wanted judges (λ before text fault bytes within judged front.
+    let few = last_small (map (λ (file : Wants). file.most) wanted) wanted refl small before text within in
+    short_text fault bytes (omega (arith, few, front)))
+
 module _ (request : Request) (has : HasItsFiles request) where
   last_short : (before : List (List ℕ)) (text : List ℕ) (fault : Fault) (bytes : List ℕ) → AreWithin request.files (before ++ text ∷ [])
       → Judges request.command (before ++ text ∷ []) (RefusedWith fault) → length bytes ≤ length text → IsShort fault bytes
@@ -120,35 +165,7 @@ module _ (request : Request) (has : HasItsFiles request) where
         short_text fault bytes (omega (arith, few, front))
   ]
 
-  front_short : (files : Option (List File)) (most : ℕ) (text bytes : List ℕ) → IsFrontIn files most text bytes → length bytes ≤ length text
-  front_short None most text bytes same = omega (arith, ap length same)
-  front_short (Some files) most text bytes front = front.read.within
-
-  kept_short : (files : Option (List File)) (texts : List (List ℕ)) (number : ℕ) (bytes : List ℕ) → IsOfLast files request.files texts number bytes
-      → (fault : Fault) → AreWithin request.files texts → Judges request.command texts (RefusedWith fault) → IsShort fault bytes
-  kept_short files texts number bytes (of_none nothing first empty) fault within judged =
-      let few : length bytes ≡ 0 = ap length empty in
-      short_text fault bytes (omega (arith, few))
-  kept_short files texts number bytes (of_last before text next all its stands front) fault within judged =
-      last_short before text fault bytes (subst (AreWithin request.files) all within)
-      (subst (λ (ts : List (List ℕ)). Judges request.command ts (RefusedWith fault)) all judged)
-      (front_short files next.most text bytes front)
-
-  limited_short : (files : Option (List File)) (texts : List (List ℕ)) (judgement : Judgement) → JudgesWithin request texts judgement → (fault : Fault)
-      → judgement ≡ RefusedWith fault → (number : ℕ) (bytes : List ℕ) → IsOfLast files request.files texts number bytes → IsShort fault bytes
-  limited_short files texts judgement (as_judged all rest j short judged) fault refused number bytes keeps =
-      kept_short files texts number bytes keeps fault (read_within request.files texts rest short)
-      (subst (Judges request.command texts) refused judged)
-  limited_short files texts judgement (too_long before next rest text short goes long) fault refused number bytes keeps =
-      subst (λ (f : Fault). IsShort f bytes) (same_fault of.Long fault refused) tt
-
   -- The text of which a command's end tells that it is refused is short.
   pub short_end : (explains : Explaining Why) (takes : Type 0) (old new : Scene) (outcome : Outcome Why)
       → EndsBehind (JudgesWithin request) explains request.files takes old new outcome → IsShortEnd outcome
-  short_end explains takes old new out.Done ends = tt
-  short_end explains takes old new (out.Refused refusal) ends =
-      let refuses = ends.answers.0 in
-      limited_short old.files refuses.texts (RefusedWith refusal.fault) refuses.judged refusal.fault refl refusal.number refusal.text.now refuses.keeps
-  short_end explains takes old new (out.ReadFault number) ends = tt
-  short_end explains takes old new out.WriteFault ends = tt
-  short_end explains takes old new out.Memory ends = tt
+  short_end = end_short request.files (Judges request.command) last_short

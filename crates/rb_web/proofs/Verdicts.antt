@@ -10,12 +10,12 @@ use Rattle.rb_hall.specs.Complete.{AreStored, EndsAs, EndsAsJudged, IsComplete}
 use Rattle.rb_hall.specs.Ending.{SeenBehind}
 use Rattle.rb_hall.specs.Judgement.{Explaining, Judgement, Judging, ReadsOn, RefusedWith, Writes, EndsBy, refused_here, written_here, later, Wants, line_of}
 use Rattle.rb_hall.proofs.Complete.{completed}
-use Rattle.rb_verdict.specs.Judging.{JudgesWithin, TakesWhileWriting}
-use Rattle.rb_verdict.specs.Words.{Request, request_for}
+use Rattle.rb_verdict.specs.Judging.{TakesWhileWriting}
+use Rattle.rb_verdict.specs.Words.{request_for}
 use Rattle.rb_commands.specs.Requests.{explains_of}
 use Rattle.rb_commands.specs.declared.why.Why.{Why}
 use Rattle.rb_tell.specs.Entrance.{number_of}
-use Rattle.rb_show.specs.Wished.{explains_of as view_explains_of}
+use Rattle.rb_show.specs.Wished.{Carries, Task, explains_of as view_explains_of, judges_of, request_of}
 use Rattle.rb_web.specs.Ending.{opening}
 use Rattle.rb_web.specs.Kept.{FailsWhenFull}
 use Rattle.rb_web.specs.Laws.{EndsOverTexts, IsWhole, TextsDecide, written_for}
@@ -109,22 +109,22 @@ module _ (files : List File) (wanted : List Wants) (texts : List (List ℕ)) (st
 
 -- ---- each end
 
-module _ (explains : Explaining Why) (request : Request) (files : List File) (room : ℕ) (bytes : List ℕ) (scene : Scene) (number : ℕ)
+module _ (explains : Explaining Why) (task : Task) (files : List File) (room : ℕ) (bytes : List ℕ) (scene : Scene) (number : ℕ)
     (reads_well : scene.read_faults.count ≡ 0) (wrote : scene.written ≡ Some bytes) (writes_well : FailsWhenFull room bytes scene.write_faults)
-    (texts : List (List ℕ)) (stored : AreStored files request.files texts) where
-  whole_as : (outcome : Outcome Why) (judgement : Judgement) → number ≡ number_of request.command outcome
-      → EndsAs judgement [] scene.written outcome → IsWhole request.command judgement bytes number
+    (texts : List (List ℕ)) (stored : AreStored files (request_of task).files texts) where
+  whole_as : (outcome : Outcome Why) (judgement : Judgement) → number ≡ number_of (request_of task).command outcome
+      → EndsAs judgement [] scene.written outcome → IsWhole (request_of task).command judgement bytes number
   whole_as outcome ReadsOn is never = absurd never
   whole_as outcome (Writes text) is (done, written) =
-      (some_same bytes text (sym wrote ∙ written), is ∙ ap (number_of request.command) done)
+      (some_same bytes text (sym wrote ∙ written), is ∙ ap (number_of (request_of task).command) done)
   whole_as outcome (RefusedWith fault) is refused =
       let line : bytes ≡ line_of refused.refusal.fault = some_same bytes (line_of refused.refusal.fault) (sym wrote ∙ refused.line) in (
         line ∙ ap written_for (sym refused.same),
-        is ∙ ap (number_of request.command) refused.is,
+        is ∙ ap (number_of (request_of task).command) refused.is,
       )
 
-  whole : (outcome : Outcome Why) → number ≡ number_of request.command outcome → scene.write_faults.count ≡ 0
-      → IsComplete (JudgesWithin request) request.files (opening files) scene outcome → EndsOverTexts request texts room bytes number
+  whole : (outcome : Outcome Why) → number ≡ number_of (request_of task).command outcome → scene.write_faults.count ≡ 0
+      → IsComplete (judges_of task) (request_of task).files (opening files) scene outcome → EndsOverTexts task texts room bytes number
   whole outcome is well complete =
       elim (complete files [] texts (record {
         files_told = refl;
@@ -133,7 +133,7 @@ module _ (explains : Explaining Why) (request : Request) (files : List File) (ro
         no_read_fault = λ rose. omega (arith, rose, reads_well);
         no_write_fault = λ rose. omega (arith, rose, well);
       })) [
-        | inl memory ↦ inl (is ∙ ap (number_of request.command) memory)
+        | inl memory ↦ inl (is ∙ ap (number_of (request_of task).command) memory)
         | inr ends ↦ inr (ends.judgement, ends.judged, inl (whole_as outcome ends.judgement is ends.ended))
       ]
 
@@ -145,17 +145,17 @@ module _ (explains : Explaining Why) (request : Request) (files : List File) (ro
         | inr filled ↦ filled
       ]
 
-  ended : (outcome : Outcome Why) (told : Scene) → number ≡ number_of request.command outcome
-      → Answers (JudgesWithin request) explains request.files (TakesWhileWriting request.command) (opening files) told outcome
-      → SeenBehind told scene → IsComplete (JudgesWithin request) request.files (opening files) scene outcome
-      → EndsOverTexts request texts room bytes number
+  ended : (outcome : Outcome Why) (told : Scene) → number ≡ number_of (request_of task).command outcome
+      → Answers (judges_of task) explains (request_of task).files (TakesWhileWriting (request_of task).command) (opening files) told outcome
+      → SeenBehind told scene → IsComplete (judges_of task) (request_of task).files (opening files) scene outcome
+      → EndsOverTexts task texts room bytes number
   ended out.Memory told is answers seen complete = inl is
   ended out.Done told is (text, judged, well, all) seen complete = whole out.Done is (seen.write_faults ∙ all.well) complete
   ended (out.Refused refusal) told is (refuses, well, all) seen complete = whole (out.Refused refusal) is (seen.write_faults ∙ all.well) complete
   ended (out.ReadFault file) told is (fails, nothing) seen complete =
       whole (out.ReadFault file) is (seen.write_faults ∙ ap (λ f. f.count) nothing.faults) complete
   ended out.WriteFault told is (text, would, well, part) seen complete =
-      let verdict = would_be_written files request.files texts stored told.starts (JudgesWithin request) told text refl would in
+      let verdict = would_be_written files (request_of task).files texts stored told.starts (judges_of task) told text refl would in
       let k = part.written.0 in
       let front : bytes ≡ take k text = some_same bytes (take k text) (sym wrote ∙ seen.written ∙ part.written.2) in
       let many : length bytes ≡ length (take k text) = ap length front in
@@ -175,20 +175,20 @@ module _ (explains : Explaining Why) (request : Request) (files : List File) (ro
 
 pub texts_decide : TextsDecide
 texts_decide programs.Rbl words files room reason_room bytes told number telling ends =
-    let request = request_for words in
+    let task = Carries (request_for words) in
     let so = ends.ends in (
-      request,
+      task,
       refl,
       λ texts stored.
-          ended (explains_of request.command) request files room bytes ends.scene number ends.reads_well ends.wrote ends.writes_well texts stored
+          ended (explains_of (request_of task).command) task files room bytes ends.scene number ends.reads_well ends.wrote ends.writes_well texts stored
           so.outcome so.ends.told so.is so.ends.answers so.ends.seen so.ends.complete,
     )
 texts_decide programs.Rblview words files room reason_room bytes told number telling ends =
-    let request = ends.ends.0 in
+    let task = ends.ends.0 in
     let so = ends.ends.2 in (
-      request,
+      task,
       ends.ends.1,
       λ texts stored.
-          ended (view_explains_of request.command) request files room bytes ends.scene number ends.reads_well ends.wrote ends.writes_well texts stored
-          so.outcome so.ends.told so.is so.ends.answers so.ends.seen so.ends.complete,
+          ended (view_explains_of (request_of task).command) task files room bytes ends.scene number ends.reads_well ends.wrote ends.writes_well texts
+          stored so.outcome so.ends.told so.is so.ends.answers so.ends.seen so.ends.complete,
     )

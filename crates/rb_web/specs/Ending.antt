@@ -2,12 +2,12 @@
 use Rattle.std.specs.Prelude.{◌≡◌, ℕ, List, [], codes, Option, Some}
 use Rattle.rb_outside.specs.Outside.{Faults, File, no_faults, went_well}
 use Rattle.rb_hall.specs.Answers.{Scene}
-use Rattle.rb_verdict.specs.Words.{Request, request_for}
+use Rattle.rb_asking.specs.Views.{view_of}
+use Rattle.rb_verdict.specs.Words.{request_for}
 use Rattle.rb_tell.specs.Entrance.{ProgramEnds}
 use Rattle.rb_tell.specs.declared.end.Telling.{Telling}
 use Rattle.rb_show.specs.Entrance.{WishedEnds}
-use Rattle.rb_show.specs.Wished.{IsWished}
-use Rattle.rb_show.specs.Words.{wish_of}
+use Rattle.rb_show.specs.Wished.{Carries, IsWished, Task}
 use Rattle.rb_web.specs.Kept.{FailsWhenFull, KeptBytes, KeptTexts, no_fault}
 use Rattle.rb_web.specs.declared.over_texts.Program.{Program}
 use Rattle.rb_web.specs.declared.over_texts.Program.TheVariants as programs
@@ -20,12 +20,12 @@ Ending = Scene → Scene → Option (List ℕ) → Option (List ℕ) → Faults 
 -- how each program ends for these words, over any shelf and any sinks
 abbrev pub EndsOf : Program → List (List ℕ) → Ending
 EndsOf programs.Rbl words = ProgramEnds (codes "rbl") (request_for words)
-EndsOf programs.Rblview words = WishedEnds (wish_of words)
+EndsOf programs.Rblview words = WishedEnds (view_of words)
 
 -- what these words ask each program for
-abbrev pub IsAsked : Program → List (List ℕ) → Request → Type 0
-IsAsked programs.Rbl words request = request ≡ request_for words
-IsAsked programs.Rblview words request = IsWished (wish_of words) request
+abbrev pub IsAsked : Program → List (List ℕ) → Task → Type 0
+IsAsked programs.Rbl words task = task ≡ Carries (request_for words)
+IsAsked programs.Rblview words task = IsWished (view_of words) task
 
 -- the scene of files and of a place in memory; no call of such files is a fault
 abbrev pub scene_in : KeptTexts → KeptBytes → Scene

@@ -2,11 +2,11 @@
 use Rattle.std.specs.Prelude.{◌≡◌, ◌⊎◌, ◌≤◌, ℕ, List, [], length, take}
 use Rattle.rb_outside.specs.Outside.{File}
 use Rattle.rb_hall.specs.Complete.{AreStored}
-use Rattle.rb_hall.specs.Judgement.{Judgement, ReadsOn, RefusedWith, Writes, line_of}
-use Rattle.rb_verdict.specs.Judging.{EndsWith}
-use Rattle.rb_verdict.specs.Words.{Command, Request}
+use Rattle.rb_hall.specs.Judgement.{EndsBy, Judgement, ReadsOn, RefusedWith, Writes, line_of}
+use Rattle.rb_verdict.specs.Words.{Command}
 use Rattle.rb_tell.specs.Entrance.{done_number}
 use Rattle.rb_tell.specs.declared.end.Telling.{Telling}
+use Rattle.rb_show.specs.Wished.{Task, judges_of, request_of}
 use Rattle.rb_web.specs.Ending.{EndsInMemory, EndsOf, IsAsked}
 use Rattle.rb_web.specs.declared.over_texts.Program.{Program}
 
@@ -32,12 +32,12 @@ pub record IsCut (room : ℕ) (judgement : Judgement) (bytes : List ℕ) (number
   pub front : bytes ≡ take room (written_for judgement)
   pub says : number ≡ 4
 
--- A request ends so over these texts: memory was wanting, or the verdict on them is written, whole, or cut where the place was too small.
-abbrev pub EndsOverTexts : Request → List (List ℕ) → ℕ → List ℕ → ℕ → Type 0
-EndsOverTexts request texts room bytes number =
+-- What is carried out ends so over these texts: memory was wanting, or the verdict on them is written, whole, or cut where the place was too small.
+abbrev pub EndsOverTexts : Task → List (List ℕ) → ℕ → List ℕ → ℕ → Type 0
+EndsOverTexts task texts room bytes number =
     (number ≡ 5)
-    ⊎ ((judgement : Judgement) × EndsWith request texts judgement
-    × (IsWhole request.command judgement bytes number ⊎ IsCut room judgement bytes number))
+    ⊎ ((judgement : Judgement) × EndsBy (judges_of task) [] texts judgement
+    × (IsWhole (request_of task).command judgement bytes number ⊎ IsCut room judgement bytes number))
 
 -- Of a program over files in memory: where all the files stand there that its words name, it ends over their texts. So what is written is
 -- never a part that passes for the whole, and where there is room for more than is to be written, it is written whole.
@@ -45,5 +45,5 @@ abbrev pub TextsDecide : Type 0
 TextsDecide =
     (program : Program) (words : List (List ℕ)) (files : List File) (room reason_room : ℕ) (bytes told : List ℕ) (number : ℕ) (telling : Telling)
     → EndsInMemory (EndsOf program words) files room reason_room bytes told number telling
-    → (request : Request) × IsAsked program words request
-    × ((texts : List (List ℕ)) → AreStored files request.files texts → EndsOverTexts request texts room bytes number)
+    → (task : Task) × IsAsked program words task
+    × ((texts : List (List ℕ)) → AreStored files (request_of task).files texts → EndsOverTexts task texts room bytes number)

@@ -2,17 +2,13 @@ use Rattle.std.proofs.Common.{Option, codes, ap, subst}
 use Rattle.rb_outside.specs.Outside.{went_well}
 use Rattle.rb_hall.specs.Answers.{scene_of}
 use Rattle.rb_hall.specs.Judgement.{Wants}
-use Rattle.rb_verdict.specs.Judging.{TakesWhileWriting}
-use Rattle.rb_show.specs.Wished.{asked, explains_of}
 use Rattle.rb_tell.specs.Telling.{Tells}
-use Rattle.rb_show.proofs.Files.{has_its_files}
-use Rattle.rb_tell.proofs.Short.{short_end}
+use Rattle.rb_show.proofs.Ends.{task_short}
 use Rattle.rb_show.proofs.entrance.carried.Goals as goal
 
 pub returns-clause-ends : goal.returns-clause-ends
 returns-clause-ends g c =
     let given = c.args.wish in
-    let request = asked given in
     let carried = c.command-carried in
     let outcome = carried.result.outcome in
     let told = c.tell-told in
@@ -31,6 +27,5 @@ returns-clause-ends g c =
           (λ (file : Option Wants). Tells (codes "rblview") file outcome (g.E.Sink.written c.args.err.now) (g.E.Sink.written told.new.err)
           (g.E.Sink.faults c.args.err.now) (g.E.Sink.faults told.new.err) told.result)
           c.file_in-file.ensures
-          (told.ensures (short_end request (has_its_files given) (explains_of request.command) (TakesWhileWriting request.command) old new outcome
-          carried.ensures.ends));
+          (told.ensures (task_short given old new outcome carried.ensures.ends));
     }
