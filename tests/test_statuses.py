@@ -19,15 +19,17 @@ REFUSED = {
     "page": ("c" * (MOST + 1), "L0", ""),
     "image": ("no image", "I1", ""),
 }
-USAGES = {"rbl": USAGE, "rblview": "usage: rblview explain NAME | trace SOURCE SCHEDULE | page PAGE SOURCE SCHEDULE\n"}
+USAGES = {"rbl": USAGE, "rblview": "usage: rblview explain NAME | trace SOURCE SCHEDULE | page PAGE SOURCE SCHEDULE | explore SOURCE [K]\n"}
 # Words that are no command of a program.
 UNKNOWN = {
-    "rbl": ["", "rum source schedule", "run source", "run source schedule schedule", "trace source schedule", "page page source schedule", "explain S1", "--help"],
-    "rblview": ["", "rum source schedule", "trace source", "trace source schedule schedule", "page page source", "explain", "explain Z9", "run source schedule", "--help"],
+    "rbl": ["", "rum source schedule", "run source", "run source schedule schedule", "trace source schedule", "page page source schedule", "explain S1",
+            "explore source", "--help"],
+    "rblview": ["", "rum source schedule", "trace source", "trace source schedule schedule", "page page source", "explain", "explain Z9",
+                "run source schedule", "explore", "explore source one", "explore source 1 1", "--help"],
 }
 # Words of which one is no text.
 NO_TEXTS = {"rbl": [[b"\xff"], ["check", b"\xff"], [b"run\xc3", "source", "schedule"], ["session", "source", "schedule", b"a\xed\xa0\x80"]],
-            "rblview": [[b"\xff"], ["trace", "source", b"\xff"], ["page", b"\x80page", "source", "schedule"], ["explain", b"S1\xc3"]]}
+            "rblview": [[b"\xff"], ["trace", "source", b"\xff"], ["page", b"\x80page", "source", "schedule"], ["explain", b"S1\xc3"], ["explore", b"\xff"]]}
 
 
 def each_file():

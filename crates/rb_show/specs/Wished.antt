@@ -19,7 +19,7 @@ use Rattle.rb_show.specs.declared.request.Wish.TheVariants as given
 
 -- the line that shows the commands
 abbrev pub usage_line : List ℕ
-usage_line = codes "usage: rblview explain NAME | trace SOURCE SCHEDULE | page PAGE SOURCE SCHEDULE | explore SOURCE [NUMBER]\n"
+usage_line = codes "usage: rblview explain NAME | trace SOURCE SCHEDULE | page PAGE SOURCE SCHEDULE | explore SOURCE [K]\n"
 
 -- a text that is written, and no file is read for it
 abbrev pub explain_of : List ℕ → Request

@@ -50,7 +50,7 @@ fn usage() -> Wish<'static>
     ensures { task_of result ≡ Carries (usage_of usage_line) }
 {
     Wish::Usage(Saying {
-        text: b"usage: rblview explain NAME | trace SOURCE SCHEDULE | page PAGE SOURCE SCHEDULE | explore SOURCE [NUMBER]\n",
+        text: b"usage: rblview explain NAME | trace SOURCE SCHEDULE | page PAGE SOURCE SCHEDULE | explore SOURCE [K]\n",
     })
 }
 
