@@ -141,4 +141,4 @@ if (require.main === module) {
   }
 }
 
-module.exports = { picture };
+module.exports = { picture, Refusal };
