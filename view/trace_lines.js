@@ -29,7 +29,7 @@ const isNew = (list, word) => NAME.test(word) && !list.has(word) && Boolean(list
 
 // Whether a word is what stands for it in a form; `known` is what was read so far.
 const WORDS = {
-  EDITION: word => /^[12]$/.test(word), NUMBER: word => NUMBER.test(word), VALUE: word => /^-?\d{1,20}$/.test(word), WORD: word => NAME.test(word),
+  EDITION: word => /^[12]$/.test(word), NUMBER: word => NUMBER.test(word), WORD: word => NAME.test(word), VALUE: word => /^-?\d{1,20}$/.test(word),
   PLACE: word => /^(-|\d{1,10}:\d{1,10})$/.test(word), SIZE: (word, known) => sized(known, word),
   COUNT: (word, known) => NUMBER.test(word) && (known.count = Number(word)) >= 0,
   NEW_PROCESS: (word, known) => isNew(known.processes, word) && Boolean(known.variables.set(word, new Map())),
@@ -38,13 +38,17 @@ const WORDS = {
   NEW_BLOCK: (word, known) => word === String(known.blocks) && ++known.blocks > 0,
   PROCESS: (word, known) => known.processes.has(known.process = word), CHANNEL: (word, known) => known.channels.has(word),
   CONVERSATION: (word, known) => known.conversations.has(word), AROUND: (word, known) => word === "-" || known.conversations.has(word),
-  LEVEL: word => NUMBER.test(word) && Number(word) >= 1 && Number(word) <= MOST_LEVELS, BLOCK: (word, known) => NUMBER.test(word) && Number(word) < known.blocks,
+  LEVEL: word => NUMBER.test(word) && Number(word) >= 1 && Number(word) <= MOST_LEVELS,
+  BLOCK: (word, known) => NUMBER.test(word) && Number(word) < known.blocks,
   VARIABLE: (word, known) => known.variables.get(known.process).has(known.variable = word),
   INDEX: (word, known) => isIndex(word, known.variables.get(known.process).get(known.variable)),
   EARLIER: (word, known) => NUMBER.test(word) && Number(word) <= known.turn,
 };
 // What stands for all that is left of a line.
-const RESTS = { TEXT: words => words.every(word => /^[\t!-~]*$/.test(word)), PROCESSES: (words, known) => words.length > 0 && words.every(word => known.processes.has(word)) };
+const RESTS = {
+  TEXT: words => words.every(word => /^[\t!-~]*$/.test(word)),
+  PROCESSES: (words, known) => words.length > 0 && words.every(word => known.processes.has(word)),
+};
 
 function sized(known, word) {
   if (word !== "-" && !(NUMBER.test(word) && Number(word) >= 1 && Number(word) <= MOST_ELEMENTS)) return false;
@@ -76,7 +80,8 @@ function faultOfTurn(text, known) {
 /* The first fault of a text that is to be a trace: its name and its line; nothing where there is none. A trace ends with an LF, and what stands
    behind its line `end` is taken as it is. */
 function faultOfTrace(text) {
-  const lines = text.split("\n"), known = { processes: new Set(), channels: new Set(), conversations: new Set(), variables: new Map(), blocks: 0, turn: 0 };
+  const names = { processes: new Set(), channels: new Set(), conversations: new Set(), variables: new Map() };
+  const lines = text.split("\n"), known = { ...names, blocks: 0, turn: 0 };
   if (lines[0] !== "trace 1") return { name: "no-trace", line: 1 };
   for (let k = 1; k < lines.length - 1; k++) {
     if (known.count !== undefined && lines[k] === `end ${known.count}` && known.turn === known.count) return null;

@@ -32,7 +32,8 @@ function outsByTurn(scene) {
 function drawOut(scene, outs) {
   const { turn, process } = outs[0], x = scene.x(turn), y = scene.lanes[process].lines, whole = outs.map(o => o.text).join(" · ");
   const next = nextPrinted(scene.run, process, turn), room = Math.min(230, (next && next <= scene.now ? scene.x(next) - 6 : Infinity) - x - 8);
-  const texts = [230, room].map(wide => fitted(whole, Math.floor(wide / 6.4))).filter(Boolean);
+  const rooms = scene.file ? [230, room, Math.min(room, scene.rightEdge - x - 9)] : [230, room];
+  const texts = rooms.map(wide => fitted(whole, Math.floor(wide / 6.4))).filter(Boolean);
   scene.over.push(scene.thing(`out:${turn}:${process}`, "", `<path class="tag" d="M${x - 4} ${y}h5l4 4l-4 4h-5z"/>`));
   scene.labels.mark(x - 4, y, 9, 8);
   const turned = 16 + x - scene.x(printedFirst(scene, turn, process));
