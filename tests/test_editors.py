@@ -1,7 +1,8 @@
 """The editors' files: each reserved word stands in each of them, in its edition, and no other word does.
 
 The words are those of crates/rb_base/specs/Reserved.antt; the table of docs/LANGUAGE.md has to list the same. Both grammars are applied to
-each word and to a line of a program, and Vim is asked for the group of each word where it is installed.
+each word and to a line of a program, and Vim is asked for the group of each word where it is installed. And what leads an editor to a fault
+finds the file, the place and the name in what `rbl` tells of it.
 """
 import functools
 import json
@@ -11,10 +12,16 @@ import shutil
 import subprocess
 import unittest
 
-from .shared import PATIENCE, ROOT, Cases, folder_of, read, text_of
+from .shared import PATIENCE, ROOT, Cases, answer, folder_of, program, read, text_of, write
 
 EDITORS = os.path.join(ROOT, "editors")
 ORDINARY = ["price", "ensured", "ends", "every1", "allx"]
+# A text of each kind that is refused, with its command: the one file that is named last has the fault.
+SOURCE = "program a;\nprocess p { var x; x := 1; }\nend.\n"
+PLAIN_RULE = {"regexp": r"(.*?):(\d+):(\d+): (\w+): (.*)", "file": 1, "line": 2, "column": 3, "code": 4, "message": 5}
+FAULTY = [("check", {"a b.rbl": "program a;\nprocess p { x := 1; }\nend.\n"}), ("check", {"a.rbl": "program a;\n\tprocess p { x = 1; }\nend.\n"}),
+          ("run", {"a b.rbl": SOURCE, "a b.schedule": "p 1\nq 1\n"}), ("plain", {"a.rbl": SOURCE, "a.record": "2 p\n1 p\n"}),
+          ("domino", {"a.history": "process p\nfail q\n"})]
 PROGRAM = ["program tour;", 'process p { print "ensure", x; } # ensure', "end."]
 
 
@@ -170,3 +177,63 @@ class Editors(Cases):
             for word, group in zip(words + names, groups[2:], strict=True):
                 with self.subTest(f"vim, after {front!r}: {word}"):
                     self.assertTrue(group.startswith("rbl") if word in words else group == "", group)
+
+
+def told_by(rule, text):
+    """What a rule finds in a text, line by line: for each fault its file, line, column, name and message."""
+    found = filter(None, (re.match(rule["regexp"], line) for line in text.splitlines()))
+    return [(m[rule["file"]], int(m[rule["line"]]), int(m[rule["column"]]), m[rule["code"]], m[rule["message"]]) for m in found]
+
+
+def unfound(command, files, rule):
+    """What is wrong with what is found of a refusal: it has to be its name and place on standard output, and the file."""
+    with folder_of(files) as folder:
+        told = answer([command, *files], folder)
+    found = told_by(rule, told.err.decode())
+    if len(found) != 1 or not found[0][4]:
+        return f"{found} in {told}"
+    file, line, column, name, _ = found[0]
+    places = [f"refused {name} at {line}:{column}\n".encode(), f"refused {name} at {line}\n".encode()]
+    return None if file == list(files)[-1] and told.out in places else f"{found} for {told.out}"
+
+
+def gone_to(folder, name):
+    """Where Vim stands after `:make` over an open file, and its list of faults: the name, line, column and text of each."""
+    answered, script = os.path.join(folder, "answer"), os.path.join(folder, "script.vim")
+    opened = os.path.join(folder, name).replace(" ", "\\ ")
+    fault = "[fnamemodify(bufname(v:val.bufnr), \":t\"), v:val.lnum, v:val.col, v:val.text]"
+    stands = f"[expand('%:t'), line('.'), col('.'), map(filter(getqflist(), 'v:val.valid'), '{fault}')]"
+    write(script, f"set runtimepath^={EDITORS}/vim\nfiletype plugin on\nlet g:rbl_program = '{program('rbl')}'\nedit {opened}\ncall cursor(1, 1)\ncompiler rbl\n"
+                  f"silent make\ncall writefile([json_encode({stands})], '{answered}')\nqall!\n")
+    subprocess.run(["vim", "-u", "NONE", "-N", "-es", "-S", script], cwd=folder, timeout=PATIENCE, check=False, stdin=subprocess.DEVNULL,
+                   stdout=subprocess.DEVNULL)
+    return json.loads(read(answered))
+
+
+class Faults(Cases):
+    PROGRAMS = ("rbl",)
+
+    def test_vscode(self):
+        """The problem matchers of VS Code, over a refusal of each kind; and the lines between which a run of tools/watch stands."""
+        parts = json.loads(text_of("editors/vscode/package.json"))["contributes"]
+        rules = {f"${rule['name']}": rule for rule in parts["problemPatterns"]}
+        for matcher in parts["problemMatchers"]:
+            rule = rules[matcher["pattern"]]
+            self.each([(f"{matcher['name']}: {command} {' '.join(files)}", command, files, rule) for command, files in FAULTY], unfound)
+        begins, ends = (parts["problemMatchers"][1]["background"][name] for name in ("beginsPattern", "endsPattern"))
+        with folder_of({"a.rbl": SOURCE}) as folder:
+            watch = os.path.join(ROOT, "tools/watch")
+            told = answer(["-n", "1", "check", "a.rbl"], folder, said_to=watch, environment=[("RBL", program("rbl"))])
+        lines = told.out.decode().splitlines()
+        self.assertEqual([bool(re.match(begins, lines[0])), lines[1], bool(re.match(ends, lines[2])), lines[3:]], [True, "accepted", True, []])
+
+    @unittest.skipUnless(shutil.which("vim"), "no vim here")
+    def test_vim(self):
+        """`:make` goes to the fault of the source, and of the schedule, that is open; and stays where nothing is refused."""
+        for command, files in FAULTY[:3]:
+            with self.subTest(f"{command} {' '.join(files)}"), folder_of(files) as folder:
+                name = list(files)[-1]
+                _, line, column, fault, text = told_by(PLAIN_RULE, answer([command, *files], folder).err.decode())[0]
+                self.assertEqual(gone_to(folder, name), [name, line, column, [[name, line, column, f"{fault}: {text}"]]])
+        with self.subTest("accepted"), folder_of({"a.rbl": SOURCE}) as folder:
+            self.assertEqual(gone_to(folder, "a.rbl"), ["a.rbl", 1, 1, []])

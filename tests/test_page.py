@@ -21,6 +21,11 @@ class Page(Told):
         self.told(["view/test_colours.js"])
 
     @unittest.skipUnless(HAS_NODE, "no node here")
+    def test_pictures(self):
+        """The picture that is drawn without a browser; and those of the docs are what it draws now."""
+        self.told(["view/test_svg.js"], ["view/pictures.js", "--check"])
+
+    @unittest.skipUnless(HAS_NODE, "no node here")
     @unittest.skipUnless(CHROMIUM, "no Chromium here")
     def test_in_browser(self):
         """Each turn of the examples; what the page answers, and how it is seen; and long runs."""

@@ -3,9 +3,9 @@
 
      node view/test_looks.js */
 "use strict";
-const path = require("path");
+const fs = require("fs"), path = require("path");
 const { MARKET } = require("./long_runs.js");
-const { OUT, same, sure, wait, pageOf, example, inBrowser } = require("./driving.js");
+const { ROOT, OUT, same, sure, wait, pageOf, example, inBrowser } = require("./driving.js");
 
 const shot = (browser, name) => browser.picture(path.join(OUT, `${name}.png`));
 
@@ -116,4 +116,32 @@ async function testForcedAndPaper(browser) {
   }
 }
 
-inBrowser([testNames, testContrast, testWidths, testForcedAndPaper]);
+// Of each picture in the page: the texts that overlap, that reach out of it, and those that are less than 10 pixels high.
+const UNREADABLE = `[...document.querySelectorAll("body > svg")].flatMap(svg => {
+  const own = svg.getBoundingClientRect(), texts = [...svg.querySelectorAll("text")].map(e => [e.textContent, e.getBoundingClientRect(), e]);
+  const apart = (a, b) => a.right <= b.left + 1 || b.right <= a.left + 1 || a.bottom <= b.top + 3 || b.bottom <= a.top + 3;
+  const pairs = texts.flatMap(([a, box], k) => texts.slice(k + 1).filter(([, other]) => !apart(box, other)).map(([b]) => a + " on " + b));
+  const out = texts.filter(([, box]) => box.left < own.left || box.right > own.right || box.top < own.top || box.bottom > own.bottom);
+  const small = texts.filter(([, , e]) => parseFloat(getComputedStyle(e).fontSize) * (own.width / svg.viewBox.baseVal.width) < 10);
+  const wide = own.width > 880 ? ["it is wider than 880 pixels"] : [];
+  return [...pairs, ...out.map(([a]) => a + " reaches out"), ...small.map(([a]) => a + " is small"), ...wide].map(why => svg.id + ": " + why);
+})`;
+
+// The pictures of the docs, in both colour schemes.
+async function testPictures(browser) {
+  const folder = path.join(ROOT, "docs/pictures"), page = path.join(OUT, "pictures.html");
+  const names = fs.readdirSync(folder, { recursive: true }).map(String).filter(name => name.endsWith(".svg")).sort();
+  const pictures = names.map(name => fs.readFileSync(path.join(folder, name), "utf8").replace(/^.*\n<svg/, `<svg id="${name}"`));
+  fs.writeFileSync(page, `<!doctype html><html data-ready="yes"><meta charset="utf-8"><body>${pictures.join("\n")}</body></html>`);
+  for (const scheme of ["light", "dark"]) {
+    await browser.send("Emulation.setEmulatedMedia", { features: [{ name: "prefers-color-scheme", value: scheme }] });
+    await browser.open(page, 900, 900);
+    const faults = await browser.ask(UNREADABLE);
+    for (const name of names) same(`${name}, ${scheme}`, faults.filter(fault => fault.startsWith(`${name}: `)).join("; "), "");
+    const paper = await browser.ask("getComputedStyle(document.querySelector('.paper')).fill");
+    same(`the paper is ${scheme}`, paper, { light: "rgb(255, 255, 255)", dark: "rgb(18, 22, 27)" }[scheme]);
+  }
+  await browser.send("Emulation.setEmulatedMedia", { features: [] });
+}
+
+inBrowser([testNames, testContrast, testWidths, testForcedAndPaper, testPictures]);

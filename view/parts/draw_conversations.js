@@ -86,5 +86,5 @@ function drawRecoveryLine(scene, session, entries) {
   scene.over.unshift(scene.thing(`recovery:${session.id}`, "", shapes));
   if (scene.dense || session.depth > 0) return;
   const last = entries[entries.length - 1], y = fieldBottom(scene, session, last.process) + 12;
-  scene.labels.ask("line", scene.x(last.turn) - 2, y, ["recovery line"], `legend recoveries${gone}`, { font: FONTS.plain });
+  scene.labels.ask("line", scene.x(last.turn) - 2, y, ["recovery line"], `legend recoveries${gone}`, { font: FONTS.plain, turned: -6 });
 }

@@ -8,7 +8,7 @@ function drawAxis(scene) {
   for (const turn of numberedTurns(scene)) {
     const x = scene.x(turn), half = widthOf(grouped(turn), FONTS.plain) / 2;
     if (!scene.columns) ticks += `M${x.toFixed(1)} ${AXIS - 5}v4`;
-    if (x + half > scene.rightEdge - 2 || (!scene.file && x - half < scene.leftEdge - 6)) continue;
+    if (x + half > scene.rightEdge - 2 || x - half < scene.leftEdge - (scene.file ? 0 : 6)) continue;
     if (taken.some(([from, to]) => from < x + half + 3 && x - half - 3 < to)) continue;
     taken[now === null ? 0 : 1] = [x - half, x + half];
     shapes.push(`<text class="axis" x="${x.toFixed(1)}" y="${AXIS - 10}">${grouped(turn)}</text>`);

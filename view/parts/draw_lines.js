@@ -14,6 +14,7 @@ function drawHeld(scene, held) {
   const line = `<path class="held" d="M${x + 4} ${y + 4}H${Math.max(x + 4, end - 3)}"/>${square}`;
   const cross = gone ? `<path class="dropped" d="M${end - 3.5} ${y + 1}l6 6m0 -6l-6 6"/>` : "";
   scene.over.push(scene.thing(`held:${held.id}`, gone ? "gone" : "", line + cross));
+  for (const at of gone ? [x, end] : [x]) scene.labels.mark(at - 4, y, 8, 8);
 }
 
 // The lines that come out, those of one turn and process together.
@@ -29,11 +30,20 @@ function outsByTurn(scene) {
 }
 
 function drawOut(scene, outs) {
-  const { turn, process } = outs[0], x = scene.x(turn), y = scene.lanes[process].lines;
-  const next = nextPrinted(scene.run, process, turn), room = (next && next <= scene.now ? scene.x(next) - 6 : Infinity) - x - 8;
-  const text = fitted(outs.map(o => o.text).join(" · "), Math.floor(Math.min(230, room) / 6.4));
+  const { turn, process } = outs[0], x = scene.x(turn), y = scene.lanes[process].lines, whole = outs.map(o => o.text).join(" · ");
+  const next = nextPrinted(scene.run, process, turn), room = Math.min(230, (next && next <= scene.now ? scene.x(next) - 6 : Infinity) - x - 8);
+  const rooms = scene.file ? [230, room, Math.min(room, scene.rightEdge - x - 9)] : [230, room];
+  const texts = rooms.map(wide => fitted(whole, Math.floor(wide / 6.4))).filter(Boolean);
   scene.over.push(scene.thing(`out:${turn}:${process}`, "", `<path class="tag" d="M${x - 4} ${y}h5l4 4l-4 4h-5z"/>`));
-  if (text) scene.labels.ask("printed", x + 8, y + 8, [text], "printed", { font: FONTS.mono });
+  scene.labels.mark(x - 4, y, 9, 8);
+  const turned = 16 + x - scene.x(printedFirst(scene, turn, process));
+  scene.labels.ask("printed", x + 8, y + 8, texts, "printed", { font: FONTS.mono, most: room, turned });
+}
+
+// The turn in which the first of the lines was printed that come out in a turn.
+function printedFirst(scene, turn, process) {
+  const held = Model.spansOf(scene.run).held.between(turn, turn).filter(one => one.process === process && one.to === turn);
+  return Math.min(turn, ...held.map(one => one.from));
 }
 
 // The next turn in which a process prints something, or lets a line out.

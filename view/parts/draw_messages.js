@@ -33,4 +33,4 @@ function drawStub(scene, message, back) {
   askValue(scene, message, x + 6, end + (way > 0 ? 3 : 5), gone);
 }
 
-const askValue = (scene, message, x, y, gone) => scene.labels.ask(gone ? "rejected" : "value", x, y, [message.value], `value${gone}`);
+const askValue = (scene, message, x, y, gone) => scene.labels.ask(gone ? "rejected" : "value", x, y, [message.value], `value${gone}`, { turned: 11 });

@@ -7,7 +7,7 @@ function standstillOf(run, t) {
 }
 
 function drawRing(scene) {
-  if (scene.file || state.survivors || scene.now < 1) return;
+  if (state.survivors || scene.now < 1 || (scene.file && scene.end > scene.rightEdge)) return;
   const found = standstillOf(scene.run, scene.now);
   if (!found) return;
   const right = Math.max(scene.end, scene.leftEdge) + 10, left = Math.max(scene.leftEdge + 4, Math.min(scene.end, scene.rightEdge) - RING.wide - 10);
@@ -21,7 +21,7 @@ function drawRing(scene) {
     if (next !== undefined && k >= 0) shapes.push(waitArrow(scene, x + RING.middle, p, next, wait, soon));
   });
   for (const p of found.ring) shapes.push(`<circle class="waiter${soon}" cx="${x + RING.middle}" cy="${scene.lanes[p].marks}" r="${RING.radius}"/>`);
-  scene.veil.push(`<g data-thing="ring" class="ringed">${shapes.join("")}</g>`);
+  scene.veil.push(scene.thing("ring", "ringed", shapes.join("")));
 }
 
 // From one who waits to the one for whom: down at the right side, up at the left one, the further the wider.

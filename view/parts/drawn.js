@@ -34,7 +34,8 @@ text{font:11px system-ui,"Segoe UI",Arial,sans-serif;fill:var(--ink)}
 .gone .held,.gone .square{stroke:var(--dead)}
 .dropped{stroke:var(--grey);stroke-width:1.4} .tag{fill:var(--ink)}
 .printed{font-size:10.5px;font-family:ui-monospace,Consolas,monospace;paint-order:stroke;stroke:var(--back);stroke-width:3px;stroke-linejoin:round}
-.finish{stroke:var(--ink);stroke-width:3} .failed{fill:var(--bad);font-weight:650}
+.finish{stroke:var(--ink);stroke-width:3}
+.failed{fill:var(--bad);font-weight:650;paint-order:stroke;stroke:var(--back);stroke-width:3px;stroke-linejoin:round}
 .now{stroke:var(--ink);stroke-width:1.2} .nowbox{fill:var(--ink)} .nowtext{fill:var(--back);font-weight:650;text-anchor:middle;font-size:10.5px}
 .full{fill:var(--took)} .full.gone{fill:var(--grey)} .full.waits{fill:var(--soft);fill-opacity:.38} .full.back,.full.bad{fill:var(--bad)}
 .full.good{fill:var(--good)}
