@@ -1,18 +1,17 @@
 -- What is refused, of texts within the limits of a command's files: where the reason looks at it, it is no longer than a text may be.
-use Rattle.std.proofs.Common.{◌≡◌, ◌⊎◌, ℕ, ◌≤◌, List, [], ◌∷◌, ◌++◌, length, map, take, Option, Some, None, refl, sym, ap, subst, ◌∙◌, inl, inr, arith}
+use Rattle.std.proofs.Common.{◌≡◌, ◌⊎◌, ℕ, ◌≤◌, List, [], ◌∷◌, ◌++◌, length, map, Option, Some, None, refl, ap, subst, ◌∙◌, inl, inr, arith}
 use Rattle.rb_base.specs.declared.limits.TheConstants.{MOST_BYTES}
 use Rattle.rb_outside.specs.Outside.{File}
 use Rattle.rb_hall.specs.declared.fault.Fault.{Fault}
 use Rattle.rb_hall.specs.declared.fault.Fault.TheVariants as of
 use Rattle.rb_hall.specs.declared.outcome.Outcome.{Outcome}
 use Rattle.rb_hall.specs.declared.outcome.Outcome.TheVariants as out
-use Rattle.rb_hall.specs.declared.outcome.Refusal.{Refusal}
-use Rattle.rb_hall.specs.Judgement.{Explaining, Judgement, Judging, ReadsOn, RefusedWith, Writes, Limited, Wants, as_judged, too_long}
-use Rattle.rb_hall.specs.Answers.{IsFrontIn, IsOfLast, RefusesIn, Scene, of_last, of_none}
+use Rattle.rb_hall.specs.Judgement.{Explaining, Judgement, Judging, RefusedWith, Limited, Wants, as_judged, too_long}
+use Rattle.rb_hall.specs.Answers.{IsFrontIn, IsOfLast, Scene, of_last, of_none}
 use Rattle.rb_hall.specs.Ending.{EndsBehind}
 use Rattle.rb_hall.proofs.Limits.{AreWithin, read_within}
-use Rattle.rb_verdict.specs.Judging.{Judges, JudgesFirst, JudgesWithin, LoadGoesOn, OverTurns, TakesWhileWriting, at_first, first_accepted, first_refused, reads_schedule, runs, schedule_refused}
-use Rattle.rb_verdict.specs.Texts.{ImageHolds, ImageRefused, no_image, unsound_image}
+use Rattle.rb_verdict.specs.Judging.{Judges, JudgesWithin, OverTurns, at_first, first_accepted, first_refused, reads_schedule, runs, schedule_refused}
+use Rattle.rb_verdict.specs.Texts.{ImageRefused, no_image, unsound_image}
 use Rattle.rb_verdict.specs.Words.{Command, Run, Survive, Replay, Check, ListCode, Trial, Session, Analyse, Survey, Compile, Load, Trace, Page, Explain, Usage, HasItsFiles, Request, limits_of}
 use Rattle.rb_commands.specs.declared.why.Why.{Why}
 use Rattle.rb_tell.specs.Reasons.{IsShort}
@@ -112,7 +111,7 @@ image_last files has (one ∷ before) text fault bytes within judged front =
 -- What is refused of the last text that was read is short: so is what an end tells that it is refused.
 module _ (wanted : List Wants) (judges : Judging)
     (last : (before : List (List ℕ)) (text : List ℕ) (fault : Fault) (bytes : List ℕ) → AreWithin wanted (before ++ text ∷ [])
-      → judges (before ++ text ∷ []) (RefusedWith fault) → length bytes ≤ length text → IsShort fault bytes) where
+    → judges (before ++ text ∷ []) (RefusedWith fault) → length bytes ≤ length text → IsShort fault bytes) where
   front_short : (files : Option (List File)) (most : ℕ) (text bytes : List ℕ) → IsFrontIn files most text bytes → length bytes ≤ length text
   front_short None most text bytes same = omega (arith, ap length same)
   front_short (Some files) most text bytes front = front.read.within

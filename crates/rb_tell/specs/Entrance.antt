@@ -1,5 +1,5 @@
 -- How a program ends: its exit status, what stands at its sink, and what standard error is told.
-use Rattle.std.specs.Prelude.{◌≡◌, ℕ, List, [], slice_get, Option, Some, None}
+use Rattle.std.specs.Prelude.{◌≡◌, ℕ, List, [], slice_get, Option, None}
 use Rattle.rb_outside.specs.Outside.{Faults}
 use Rattle.rb_hall.specs.Answers.{Scene}
 use Rattle.rb_hall.specs.Ending.{EndsBehind}
