@@ -5,6 +5,8 @@ use Rattle.rb_world.specs.Text.{Naming}
 use Rattle.rb_trace.specs.Naming.{naming}
 use Rattle.rb_meaning.specs.Groups.{groups_of}
 use Rattle.rb_code.specs.Instructions.Plain.{code}
+use Rattle.rb_code.specs.SoundCode.WellFormed.{IsSound}
+use Rattle.rb_recovery.specs.Worlds.{counts_of}
 use Rattle.rb_conv.specs.Conversations.{memberships, opening}
 use Rattle.rb_explore.specs.System.{IsLawful}
 use Rattle.rb_outcomes.specs.Programs.{system_of_code}
@@ -15,7 +17,7 @@ use Rattle.rb_hall.specs.Judgement.{Judgement}
 use Rattle.rb_verdict.specs.Judging.{first_accepted}
 use Rattle.rb_commands.specs.Held.{HoldsCompiled}
 use Rattle.rb_commands.specs.declared.source.Compiled.TheVariants as compiled
-use Rattle.rb_commands.proofs.Loaded.{groups_are, made_for}
+use Rattle.rb_commands.proofs.Loaded.{groups_are, is_sound, made_for}
 use Rattle.rb_schedules.specs.Answer.{Answer}
 use Rattle.rb_schedules.specs.Promises.{AnswersCode}
 use Rattle.rb_schedules.specs.declared.answer.TheConstants.{LIMITS}
@@ -48,3 +50,8 @@ explored_lawful prepared texts (source, e, is, short) =
     let c = code prepared.code in
     subst (λ (groups : List Membership). IsLawful (system_of_code c groups)) (sym (groups_are source prepared is))
     (code_lawful source is.tree is.slots c is.accepted is.is_code.frames is.is_code.stands)
+
+-- and it is sound
+pub explored_sound : (prepared : Prepared) (texts : List (List ℕ)) → HoldsCompiled texts (compiled.Program prepared)
+    → IsSound (code prepared.code) (memberships (opening prepared.nested)) (counts_of (opening prepared.nested))
+explored_sound prepared texts (source, e, is, short) = is_sound source prepared is
