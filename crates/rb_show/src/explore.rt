@@ -69,12 +69,7 @@ impl<'s> Command<'s> for Explore<'_> {
 
 impl Explore<'_> {
     // Searches, and tells the answer.
-    fn put<S: Sink>(
-        &self,
-        alloc: Global,
-        held: Compiled,
-        out: &mut S,
-    ) -> Result<(), Unwritten<Why>>
+    fn put<S: Sink>(&self, alloc: Global, held: Compiled, out: &mut S) -> Result<(), Unwritten<Why>>
         requires { (texts : List (List ℕ)) × (length texts ≡ 1) × HoldsCompiled texts held }
         ensures { (texts : List (List ℕ)) → length texts ≡ 1 → HoldsCompiled texts held
             → WriteEnds (JudgesExplored self.now.number texts) (ExplainsSource texts) ⊥ (S.written out.old) (S.written out.new) (S.faults out.old)

@@ -24,11 +24,7 @@ use std::alloc::Global;
 use std::sync::ledger::{Blank, Ledger};
 
 /// What a program comes to over all its schedules. The ledger counts steps, which contracts alone see.
-pub fn search<L: Ledger>(
-    alloc: Global,
-    prepared: &Prepared,
-    blank: Blank,
-) -> Result<Answer, Memory>
+pub fn search<L: Ledger>(alloc: Global, prepared: &Prepared, blank: Blank) -> Result<Answer, Memory>
     requires name { blank.name ≡ L.name }
     requires parts { blank.parts ≡ L.parts }
     requires backed { 0 < blank.parts }
