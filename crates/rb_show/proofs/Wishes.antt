@@ -31,12 +31,12 @@ both : (a b : Bool) → (a && b) ≡ true → (a ≡ true) × (b ≡ true)
 both true b e = (refl, e)
 both false b e = absurd (cc)
 
-found_or : (hit : Bool) (name : List ℕ) (rest : Option (List ℕ)) → name_of name ≡ name → (task : Task) × Explained rest request
-    → (task : Task) × Explained (cond hit (Some name) rest) request
+found_or : (hit : Bool) (name : List ℕ) (rest : Option (List ℕ)) → name_of name ≡ name → (task : Task) × Explained rest task
+    → (task : Task) × Explained (cond hit (Some name) rest) task
 found_or true name rest is later = (Carries (explain_of name), (name, is, refl))
 found_or false name rest is later = later
 
-explained_in : (test : List ℕ → Bool) (words : List (List ℕ)) → list_all is_its_name words ≡ true → (task : Task) × Explained (find test words) request
+explained_in : (test : List ℕ → Bool) (words : List (List ℕ)) → list_all is_its_name words ≡ true → (task : Task) × Explained (find test words) task
 explained_in test [] all = (Carries (usage_of usage_line), refl)
 explained_in test (word ∷ words) all =
     let each = both (is_its_name word) (list_all is_its_name words) all in

@@ -31,7 +31,7 @@ pub fn requested(alloc: Global, words: &Words) -> Result<Wish<'_>, Memory>
 
 // What is carried out for a command.
 fn wish_for(view: View<'_>) -> Wish<'_>
-    ensures { IsWished (Some (plainly view)) (task_of result) }
+    ensures { IsWished (Some (plainly view.entry)) (task_of result) }
 {
     match view {
         View::Explain(name) => explained(name),
