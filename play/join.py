@@ -11,7 +11,10 @@ import html
 import json
 import os
 import re
+import shutil
+import subprocess
 import sys
+import tempfile
 import zlib
 
 sys.dont_write_bytecode = True
@@ -33,12 +36,21 @@ def text_of(path):
     return lessons.text_of(path).rstrip("\n")
 
 
+def deflated(content):
+    """Bytes as they are packed, by zopfli where it is there: it packs some four in a hundred closer."""
+    if shutil.which("zopfli"):
+        with tempfile.NamedTemporaryFile() as file:
+            file.write(content)
+            file.flush()
+            return subprocess.run(["zopfli", "-c", "--deflate", file.name], check=True, stdout=subprocess.PIPE).stdout
+    deflate = zlib.compressobj(9, zlib.DEFLATED, -15)
+    return deflate.compress(content) + deflate.flush()
+
+
 def packed(content):
     """Bytes as gzip and base64, without a time and the name of a system."""
-    deflate = zlib.compressobj(9, zlib.DEFLATED, -15)
-    middle = deflate.compress(content) + deflate.flush()
     ends = [b"\x1f\x8b\x08\0\0\0\0\0\x02\xff", zlib.crc32(content).to_bytes(4, "little") + len(content).to_bytes(4, "little")]
-    return base64.b64encode(middle.join(ends)).decode("ascii")
+    return base64.b64encode(deflated(content).join(ends)).decode("ascii")
 
 
 def unpacked(page):
