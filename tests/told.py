@@ -17,6 +17,7 @@ NESTED = b"""program a; conversation C (p, q); conversation D (p, q);
 process p { converse D ensure 1 within 9 by { } else error; converse C ensure 1 within 9 by { } else error; }
 process q { converse C ensure 1 within 9 by { converse D ensure 1 within 9 by { } else error; } else error; } end.
 """
+NAMED = b"program n;\nprocess producer { }\nprocess consumer { }\nend.\n"
 BLOCK = b"""program b; channel c from p to q size 1;
 process p { var x; ensure x = 2 within 9 by { x := 1; } else by { x := 2; } else error; send c x; send c x; x := 1 / 0; }
 process q { } end.
@@ -52,6 +53,7 @@ SLIPS = {
     "word_in_large_letters": b"Process p { }\n",
     "word_misspelled": b"channel c from p to q size 1;\nprocess p { send c 1; }\nprocess q { var x; recieve c x; }\n",
     "word_too_long": b"process p { var x; ensures x = 1 within 9 by { x := 1; } else error; }\n",
+    "word_of_two_near": b"process p { var x; wall x; }\n",
     "name_misspelled": b"process p {\n  var count;\n  cuont := 1;\n}\n",
     "name_in_large_letters": b"process p { var x; X := 1; }\n",
     "name_of_a_parameter": b"process p {\n  procedure twice(number) { print 2 * nunber; }\n  call twice(2);\n}\n",
@@ -98,6 +100,11 @@ CASES = {
     "source_for_record_of_process_edition": (["plain", "source", "source"], {"source": EDITION}),
     "schedule_with_byte_order_mark": (["run", "source", "schedule"], {"source": SMALL, "schedule": b"\xef\xbb\xbfp 2\n"}),
     "process_that_is_none": (["run", "source", "schedule"], {"source": SMALL, "schedule": b"p 2\n  r 1 # who?\n"}),
+    "process_misspelled": (["run", "source", "schedule"], {"source": NAMED, "schedule": b"prodcuer 2\n"}),
+    "process_misspelled_in_a_record": (["plain", "source", "record"], {"source": NAMED, "record": b"1 Consumer\n"}),
+    "process_misspelled_in_a_session": (["session", "source", "schedule", "session"],
+                                        {"source": NAMED, "schedule": b"producer 2\n", "session": b"show Producers\n"}),
+    "process_of_two_near": (["run", "source", "schedule"], {"source": NAMED.replace(b"consumer", b"produced"), "schedule": b"produce 2\n"}),
     "waiting_in_a_record": (["plain", "source", "record"], {"source": WAITING, "record": b"1 q\n"}),
     "record_of_an_ended_process": (["plain", "source", "record"], {"source": SMALL, "record": b"3 p\n"}),
     "record_at_a_test_line": (["plain", "source", "record"], {"source": TOGETHER, "record": b"1 p\n2 p 1\n3 p\n4 p\n"}),

@@ -2,3 +2,4 @@ pub mod Standing
 pub mod Telling
 pub mod Listing
 pub mod Habitual
+pub mod Framing

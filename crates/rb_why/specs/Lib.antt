@@ -9,6 +9,7 @@ pub mod Bytes
 pub mod Likeness
 pub mod Habits
 pub mod Open
+pub mod Meant
 pub mod Remarks
 pub mod Source
 pub mod Text

@@ -12,6 +12,7 @@ use Rattle.rb_lex.specs.Tokens.{Lexeme}
 use Rattle.rb_why.specs.Bytes.{from_place}
 use Rattle.rb_why.specs.Habits.{habit_words}
 use Rattle.rb_why.specs.Likeness.{is_nil}
+use Rattle.rb_why.specs.Meant.{meant_among, meant_or, statement_meant}
 use Rattle.rb_why.specs.Open.{innermost_open, last_of, text_of}
 use Rattle.rb_why.specs.Tokens.{text_at}
 
@@ -31,10 +32,15 @@ is_about_token name = false
 abbrev pub outer_words : List (List ℕ)
 outer_words = codes "end" ∷ codes "process" ∷ codes "channel" ∷ codes "conversation" ∷ []
 
--- help in words, where there are some
-abbrev pub help_of : Option (List ℕ) → List ℕ
-help_of None = []
-help_of (Some words) = helped words
+-- help in words, where there are some, and else another remark
+abbrev pub help_or : Option (List ℕ) → List ℕ → List ℕ
+help_or None other = other
+help_or (Some words) other = helped words
+
+-- the word that a token was meant to be which can't stand here, among those that may; or the token before it, where that begins a statement
+abbrev pub word_told : FaultName → List ℕ → List ℕ → List (List ℕ) → List ℕ
+word_told name before here may =
+    cond (is_about_token name) (meant_or (meant_among here may) (meant_or (statement_meant before may) [])) []
 
 -- a remark about a place, if there is one
 abbrev pub note_of : List ℕ → Option Place → List ℕ → List ℕ
@@ -64,10 +70,12 @@ missing_told source place last may =
 abbrev pub stray_remarks : List ℕ → SourceFault → List Lexeme → List (List ℕ) → List ℕ
 stray_remarks source fault tokens may = open_told source fault tokens ++ missing_told source fault.place (last_of tokens) may
 
--- the same of any fault that has remarks, with what is written here in place of what stands there
+-- the same of any fault that has remarks, with what is written here in place of what stands there, or
+-- what was meant by it
 abbrev pub remarks_behind : List ℕ → SourceFault → List Lexeme → List (List ℕ) → List ℕ
 remarks_behind source fault tokens may =
-    help_of (habit_words (text_of (last_of tokens)) may (text_at fault.place (tokens_of source)) (from_place source fault.place))
+    help_or (habit_words (text_of (last_of tokens)) may (text_at fault.place (tokens_of source)) (from_place source fault.place))
+    (word_told fault.name (text_of (last_of tokens)) (text_at fault.place (tokens_of source)) may)
     ++ cond (is_about_token fault.name) (stray_remarks source fault tokens may) []
 
 -- the remarks about a fault, where these may stand at its place

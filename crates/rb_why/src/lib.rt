@@ -9,6 +9,7 @@ mod habits;
 pub mod laws;
 mod likeness;
 mod listed;
+mod meant;
 mod nested;
 mod open;
 mod phrases;

@@ -2,11 +2,12 @@
 
 ghost use Rattle.std.specs.Prelude.{◌≡◌, ◌≤◌, [], cond, length, map, option_map, IfOk};
 ghost use Rattle.rb_lex.specs.Reader.{lexeme_of};
-ghost use Rattle.rb_why.specs.Remarks.{ends_all, has_habits, help_of, is_about_token, line_end, missing_told, note_of, open_told, outer_words, remarks, remarks_behind, stray_remarks};
+ghost use Rattle.rb_why.specs.Remarks.{ends_all, has_habits, help_or, is_about_token, line_end, missing_told, note_of, open_told, outer_words, remarks, remarks_behind, stray_remarks, word_told};
 
 use crate::bytes::from_place;
 use crate::habits::{Spot, habit_words};
 use crate::listed::is_among;
+use crate::meant::{meant_among, meant_or, statement_meant};
 use crate::open::{innermost_open, last_token, text_of};
 use crate::tokens::{token_text, tokens_of};
 use rb_base::{FaultName, MOST_BYTES, Memory, Place, SourceFault};
@@ -51,7 +52,8 @@ fn remarks_behind(
         token: token_text(source, fault.place),
         bytes: from_place(source, fault.place),
     };
-    let habit = help_of(alloc, habit_words(spot))?;
+    let word = word_told(alloc, fault.name, spot, may)?;
+    let habit = help_or(alloc, habit_words(spot), word.as_slice())?;
     let stray = if_stray(alloc, source, fault, tokens, may)?;
     joined(alloc, &[habit.as_slice(), stray.as_slice()])
 }
@@ -136,13 +138,30 @@ fn line_end(place: Place, last: Option<Token<'_>>) -> Option<Place>
     }
 }
 
-// Help in words, where there are some.
-fn help_of(alloc: Global, words: Option<&'static [u8]>) -> Result<Vec<u8>, Memory>
-    ensures { IfOk result (λ told. told.items ≡ help_of (option_map (λ w. w.now) words.entry)) }
+// The word that a token was meant to be which can't stand here, or the one before it.
+fn word_told(
+    alloc: Global,
+    name: FaultName,
+    spot: Spot<'_>,
+    may: &[&'static [u8]],
+) -> Result<Vec<u8>, Memory>
+    ensures { IfOk result (λ told. told.items ≡
+        word_told name spot.entry.before.now spot.entry.token.now (map (λ token. token.now) may.now)) }
+{
+    if !is_about_token(name) {
+        return Ok(Vec::new(alloc));
+    }
+    let other = meant_or(alloc, statement_meant(spot.before, may), b"")?;
+    meant_or(alloc, meant_among(spot.token, may), other.as_slice())
+}
+
+// Help in words, where there are some, and else another remark.
+fn help_or(alloc: Global, words: Option<&'static [u8]>, other: &[u8]) -> Result<Vec<u8>, Memory>
+    ensures { IfOk result (λ told. told.items ≡ help_or (option_map (λ w. w.now) words.entry) other.now) }
 {
     match words {
         Some(words) => help(alloc, words),
-        None => Ok(Vec::new(alloc)),
+        None => joined(alloc, &[other]),
     }
 }
 

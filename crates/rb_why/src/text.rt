@@ -1,16 +1,20 @@
 //! Why a schedule, a record, a session or a history is refused, in words.
 
-ghost use Rattle.std.specs.Prelude.{◌≡◌, option_map, IfOk};
-ghost use Rattle.rb_why.specs.Text.{is_about_process, is_about_word, line_words, names_process, subject, text_told, told_word, with_processes, word_place, word_words};
+ghost use Rattle.std.specs.Prelude.{◌≡◌, [], map, option_map, IfOk};
+ghost use Rattle.rb_near.specs.Nearest.{nearest};
+ghost use Rattle.rb_why.specs.Meant.{meant_or};
+ghost use Rattle.rb_why.specs.Text.{is_about_process, is_about_word, line_words, names_process, process_meant, subject, text_told, told_word, with_processes, word_place, word_words};
 
 use crate::bytes::{carriage_return_sentence, has_cr, has_order_mark, order_mark_sentence};
 use crate::likeness::reads_like_source;
-use crate::listed::processes_listed;
+use crate::listed::{process_texts, processes_listed};
+use crate::meant::meant_or;
 use crate::phrases::sentence;
 use crate::words::{from_word, word_at, words_line};
 use rb_base::{FaultName, MOST_BYTES, Memory, Names, Place, TextFault};
-use rb_frame::frame::frame;
+use rb_frame::frame::frame_with;
 use rb_frame::joined::joined;
+use rb_near::nearest;
 use std::alloc::Global;
 
 /// Why a text of this file is refused for the fault of one of its lines, with a mark under the word that it is about. The names are those
@@ -26,14 +30,42 @@ pub fn text_reason(
 {
     let words = line_sentence(alloc, text, names, fault)?;
     let place = word_place(text, fault.at, told_word(fault.name));
-    frame(
+    let meant = process_told(alloc, words_line(text, fault.at), names, fault.name)?;
+    frame_with(
         alloc,
         file,
         text,
         place,
         fault.name.word(),
         words.as_slice(),
+        meant.as_slice(),
     )
+}
+
+// The process that was meant, where a fault is about a name that none has.
+fn process_told(
+    alloc: Global,
+    line: &[u8],
+    names: Option<&Names>,
+    name: FaultName,
+) -> Result<Vec<u8>, Memory>
+    ensures { IfOk result (λ told. told.items ≡ meant_or (process_meant line.now (option_map (λ n. n.now) names.entry) name) []) }
+{
+    let Some(names) = names else {
+        return Ok(Vec::new(alloc));
+    };
+    if !is_about_process(name) {
+        return Ok(Vec::new(alloc));
+    }
+    let others = process_texts(alloc, names)?;
+    nearest_told(alloc, subject(line, name), others.as_slice())
+}
+
+// The one of these that was meant by a word.
+fn nearest_told(alloc: Global, word: &[u8], others: &[&[u8]]) -> Result<Vec<u8>, Memory>
+    ensures { IfOk result (λ told. told.items ≡ meant_or (nearest word.now (map (λ other. other.now) others.now)) []) }
+{
+    meant_or(alloc, nearest(word, others), b"")
 }
 
 /// The place of a word of a line, from 0.
