@@ -3,3 +3,4 @@ pub mod Telling
 pub mod Listing
 pub mod Habitual
 pub mod Framing
+pub mod Declaring

@@ -1,6 +1,7 @@
 //! What a word was meant to be.
 
-ghost use Rattle.std.specs.Prelude.{◌≡◌, map, option_map, IfOk};
+ghost use Rattle.std.specs.Prelude.{◌≡◌, [], map, option_map, IfOk};
+ghost use Rattle.rb_near.specs.Nearest.{nearest};
 ghost use Rattle.rb_why.specs.Meant.{all_words, meant_among, meant_or, statement_meant};
 
 use crate::listed::is_among;
@@ -44,6 +45,13 @@ pub(crate) fn meant_or(alloc: Global, word: Option<&[u8]>, other: &[u8]) -> Resu
         }
         None => joined(alloc, &[other]),
     }
+}
+
+/// Help with the one of these that was meant by a word.
+pub(crate) fn nearest_told(alloc: Global, word: &[u8], others: &[&[u8]]) -> Result<Vec<u8>, Memory>
+    ensures { IfOk result (λ told. told.items ≡ meant_or (nearest word.now (map (λ other. other.now) others.now)) []) }
+{
+    meant_or(alloc, nearest(word, others), b"")
 }
 
 // The words of the language.

@@ -1,20 +1,18 @@
 //! Why a schedule, a record, a session or a history is refused, in words.
 
-ghost use Rattle.std.specs.Prelude.{◌≡◌, [], map, option_map, IfOk};
-ghost use Rattle.rb_near.specs.Nearest.{nearest};
+ghost use Rattle.std.specs.Prelude.{◌≡◌, [], option_map, IfOk};
 ghost use Rattle.rb_why.specs.Meant.{meant_or};
 ghost use Rattle.rb_why.specs.Text.{is_about_process, is_about_word, line_words, names_process, process_meant, subject, text_told, told_word, with_processes, word_place, word_words};
 
 use crate::bytes::{carriage_return_sentence, has_cr, has_order_mark, order_mark_sentence};
 use crate::likeness::reads_like_source;
 use crate::listed::{process_texts, processes_listed};
-use crate::meant::meant_or;
+use crate::meant::nearest_told;
 use crate::phrases::sentence;
 use crate::words::{from_word, word_at, words_line};
 use rb_base::{FaultName, MOST_BYTES, Memory, Names, Place, TextFault};
 use rb_frame::frame::frame_with;
 use rb_frame::joined::joined;
-use rb_near::nearest;
 use std::alloc::Global;
 
 /// Why a text of this file is refused for the fault of one of its lines, with a mark under the word that it is about. The names are those
@@ -59,13 +57,6 @@ fn process_told(
     }
     let others = process_texts(alloc, names)?;
     nearest_told(alloc, subject(line, name), others.as_slice())
-}
-
-// The one of these that was meant by a word.
-fn nearest_told(alloc: Global, word: &[u8], others: &[&[u8]]) -> Result<Vec<u8>, Memory>
-    ensures { IfOk result (λ told. told.items ≡ meant_or (nearest word.now (map (λ other. other.now) others.now)) []) }
-{
-    meant_or(alloc, nearest(word, others), b"")
 }
 
 /// The place of a word of a line, from 0.
