@@ -59,9 +59,18 @@ SLIPS = {
     "name_of_a_parameter": b"process p {\n  procedure twice(number) { print 2 * nunber; }\n  call twice(2);\n}\n",
     "name_of_two_near": b"process p { var ones; var onex; one := 1; }\n",
     "name_of_a_left_block": b"process p { if 1 { var inner; inner := 1; } innr := 2; }\n",
+    "name_of_a_left_procedure": b"process p { procedure f(count) { print count; } cuont := 1; }\n",
+    "name_of_a_later_procedure": b"process p {\n  procedure first() { call secnod(); }\n  procedure second() { }\n}\n",
+    "name_of_a_procedure_elsewhere": b"process p { procedure settle() { } }\nprocess q { call setle(); }\n",
+    "name_of_a_channel": b"channel items from p to q size 1;\nprocess p { send itmes 1; }\nprocess q { }\n",
+    "name_of_a_later_process": b"channel items from first to secnod size 1;\nprocess first { }\nprocess second { }\n",
     "array_without_index": b"process p {\n  var row[3];\n  row := 1;\n}\n",
     "name_of_an_outer_block": b"process p {\n  var x[3];\n  if 1 {\n    var x;\n    x[0] := 1;\n  }\n}\n",
     "declared_twice": b"process p {\n  var x;\n  var y;\n  var x;\n}\n",
+    "declared_as_a_parameter": b"process p {\n  procedure f(n, m) { var n; }\n}\n",
+    "process_declared_twice": b"process p { procedure q() { } }\nprocess q { }\nprocess q { procedure q() { } }\n",
+    "arguments_of_a_later_procedure": b"process two { procedure one() { call two(1); } procedure two() { } }\n",
+    "kind_of_a_later_process": b"channel c from d to p size 1;\nchannel d from p to q size 1;\nprocess p { }\nprocess q { }\n",
 }
 
 # The cases that no fault stands for: the words, and the files by their names.
@@ -81,6 +90,8 @@ CASES = {
     "more_behind_the_end": (["check", "source"], {"source": b"program a; process p { } end.\nprocess q { }\n"}),
     "edition_that_is_none": (["check", "source"], {"source": b"edition 3; program a; process p { } end.\n"}),
     "word_of_edition_2": (["check", "source"], {"source": b"program a; process p { print (every i from 1 to 2 : i); } end.\n"}),
+    "quantified_name_with_an_index": (["check", "source"],
+                                      {"source": b"edition 2; program a; process p { var i; print (sum i from 1 to 2 : i[0]); } end.\n"}),
     "outside_here_inside_first": (["check", "source"], {"source": NESTED.replace(b"D (p, q);\n", b"D (p, q);\n# C is nested later\n")}),
     "schedule_for_source": (["run", "schedule", "source"], {"source": SMALL, "schedule": b"p 2\nq 1\n"}),
     "source_for_schedule": (["run", "source", "source"], {"source": SMALL}),
