@@ -17,6 +17,7 @@ NESTED = b"""program a; conversation C (p, q); conversation D (p, q);
 process p { converse D ensure 1 within 9 by { } else error; converse C ensure 1 within 9 by { } else error; }
 process q { converse C ensure 1 within 9 by { converse D ensure 1 within 9 by { } else error; } else error; } end.
 """
+NAMED = b"program n;\nprocess producer { }\nprocess consumer { }\nend.\n"
 BLOCK = b"""program b; channel c from p to q size 1;
 process p { var x; ensure x = 2 within 9 by { x := 1; } else by { x := 2; } else error; send c x; send c x; x := 1 / 0; }
 process q { } end.
@@ -52,14 +53,24 @@ SLIPS = {
     "word_in_large_letters": b"Process p { }\n",
     "word_misspelled": b"channel c from p to q size 1;\nprocess p { send c 1; }\nprocess q { var x; recieve c x; }\n",
     "word_too_long": b"process p { var x; ensures x = 1 within 9 by { x := 1; } else error; }\n",
+    "word_of_two_near": b"process p { var x; wall x; }\n",
     "name_misspelled": b"process p {\n  var count;\n  cuont := 1;\n}\n",
     "name_in_large_letters": b"process p { var x; X := 1; }\n",
     "name_of_a_parameter": b"process p {\n  procedure twice(number) { print 2 * nunber; }\n  call twice(2);\n}\n",
     "name_of_two_near": b"process p { var ones; var onex; one := 1; }\n",
     "name_of_a_left_block": b"process p { if 1 { var inner; inner := 1; } innr := 2; }\n",
+    "name_of_a_left_procedure": b"process p { procedure f(count) { print count; } cuont := 1; }\n",
+    "name_of_a_later_procedure": b"process p {\n  procedure first() { call secnod(); }\n  procedure second() { }\n}\n",
+    "name_of_a_procedure_elsewhere": b"process p { procedure settle() { } }\nprocess q { call setle(); }\n",
+    "name_of_a_channel": b"channel items from p to q size 1;\nprocess p { send itmes 1; }\nprocess q { }\n",
+    "name_of_a_later_process": b"channel items from first to secnod size 1;\nprocess first { }\nprocess second { }\n",
     "array_without_index": b"process p {\n  var row[3];\n  row := 1;\n}\n",
     "name_of_an_outer_block": b"process p {\n  var x[3];\n  if 1 {\n    var x;\n    x[0] := 1;\n  }\n}\n",
     "declared_twice": b"process p {\n  var x;\n  var y;\n  var x;\n}\n",
+    "declared_as_a_parameter": b"process p {\n  procedure f(n, m) { var n; }\n}\n",
+    "process_declared_twice": b"process p { procedure q() { } }\nprocess q { }\nprocess q { procedure q() { } }\n",
+    "arguments_of_a_later_procedure": b"process two { procedure one() { call two(1); } procedure two() { } }\n",
+    "kind_of_a_later_process": b"channel c from d to p size 1;\nchannel d from p to q size 1;\nprocess p { }\nprocess q { }\n",
 }
 
 # The cases that no fault stands for: the words, and the files by their names.
@@ -79,6 +90,8 @@ CASES = {
     "more_behind_the_end": (["check", "source"], {"source": b"program a; process p { } end.\nprocess q { }\n"}),
     "edition_that_is_none": (["check", "source"], {"source": b"edition 3; program a; process p { } end.\n"}),
     "word_of_edition_2": (["check", "source"], {"source": b"program a; process p { print (every i from 1 to 2 : i); } end.\n"}),
+    "quantified_name_with_an_index": (["check", "source"],
+                                      {"source": b"edition 2; program a; process p { var i; print (sum i from 1 to 2 : i[0]); } end.\n"}),
     "outside_here_inside_first": (["check", "source"], {"source": NESTED.replace(b"D (p, q);\n", b"D (p, q);\n# C is nested later\n")}),
     "schedule_for_source": (["run", "schedule", "source"], {"source": SMALL, "schedule": b"p 2\nq 1\n"}),
     "source_for_schedule": (["run", "source", "source"], {"source": SMALL}),
@@ -98,6 +111,11 @@ CASES = {
     "source_for_record_of_process_edition": (["plain", "source", "source"], {"source": EDITION}),
     "schedule_with_byte_order_mark": (["run", "source", "schedule"], {"source": SMALL, "schedule": b"\xef\xbb\xbfp 2\n"}),
     "process_that_is_none": (["run", "source", "schedule"], {"source": SMALL, "schedule": b"p 2\n  r 1 # who?\n"}),
+    "process_misspelled": (["run", "source", "schedule"], {"source": NAMED, "schedule": b"prodcuer 2\n"}),
+    "process_misspelled_in_a_record": (["plain", "source", "record"], {"source": NAMED, "record": b"1 Consumer\n"}),
+    "process_misspelled_in_a_session": (["session", "source", "schedule", "session"],
+                                        {"source": NAMED, "schedule": b"producer 2\n", "session": b"show Producers\n"}),
+    "process_of_two_near": (["run", "source", "schedule"], {"source": NAMED.replace(b"consumer", b"produced"), "schedule": b"produce 2\n"}),
     "waiting_in_a_record": (["plain", "source", "record"], {"source": WAITING, "record": b"1 q\n"}),
     "record_of_an_ended_process": (["plain", "source", "record"], {"source": SMALL, "record": b"3 p\n"}),
     "record_at_a_test_line": (["plain", "source", "record"], {"source": TOGETHER, "record": b"1 p\n2 p 1\n3 p\n4 p\n"}),

@@ -2,3 +2,5 @@ pub mod Standing
 pub mod Telling
 pub mod Listing
 pub mod Habitual
+pub mod Framing
+pub mod Declaring

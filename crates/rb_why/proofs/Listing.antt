@@ -3,6 +3,7 @@ use Rattle.std.proofs.Common.{◌≡◌, ◌≤◌, ◌<◌, ◌-◌, ◌∙◌,
 use Rattle.std.proofs.lemmas.List.{append-nil, take-map, length-map}
 use Rattle.rb_why.specs.Expected.{labels, others, told_first}
 use Rattle.rb_why.specs.Source.{with_expected}
+use Rattle.rb_why.proofs.Standing.{pushed}
 
 abbrev bytes_of : List (Bor (List ℕ)) → List (List ℕ)
 bytes_of tokens = map (λ (token : Bor (List ℕ)). token.now) tokens
@@ -27,3 +28,7 @@ first_and_others tokens first named left front back told count cut n l k f b e =
 
 pub cut_short : (n : ℕ) (tokens : List (Bor (List ℕ))) → bytes_of (take n tokens) ≡ take n (bytes_of tokens)
 cut_short n tokens = sym (take-map (λ (token : Bor (List ℕ)). token.now) n tokens)
+
+pub text_pushed : (xs ys : List (Bor (List ℕ))) (x : Bor (List ℕ)) (left rest all : List (List ℕ)) → ys ≡ xs ++ x ∷ [] → left ≡ x.now ∷ rest
+    → bytes_of xs ++ left ≡ all → bytes_of ys ++ rest ≡ all
+text_pushed xs ys x left rest all p q h = pushed (λ (token : Bor (List ℕ)). token.now) xs ys x left rest all p q h

@@ -9,6 +9,9 @@ pub mod Bytes
 pub mod Likeness
 pub mod Habits
 pub mod Open
+pub mod Scope
+pub mod Meant
+pub mod Named
 pub mod Remarks
 pub mod Source
 pub mod Text

@@ -5,13 +5,15 @@ use Rattle.rb_base.specs.declared.fault.FaultName.{FaultName}
 use Rattle.rb_base.specs.declared.fault.FaultName.TheVariants.{X1, Y1, S1}
 use Rattle.rb_base.specs.declared.fault.SourceFault.{SourceFault}
 use Rattle.rb_base.specs.declared.place.Place.{Place}
-use Rattle.rb_frame.specs.Frame.{helped, noted}
+use Rattle.rb_frame.specs.Frame.{helped}
 use Rattle.rb_frame.specs.Lines.{before}
 use Rattle.rb_lex.specs.TokenList.{tokens_of}
 use Rattle.rb_lex.specs.Tokens.{Lexeme}
 use Rattle.rb_why.specs.Bytes.{from_place}
 use Rattle.rb_why.specs.Habits.{habit_words}
 use Rattle.rb_why.specs.Likeness.{is_nil}
+use Rattle.rb_why.specs.Meant.{meant_among, meant_or, statement_meant}
+use Rattle.rb_why.specs.Named.{name_told, note_of, second_place}
 use Rattle.rb_why.specs.Open.{innermost_open, last_of, text_of}
 use Rattle.rb_why.specs.Tokens.{text_at}
 
@@ -27,19 +29,28 @@ abbrev pub is_about_token : FaultName → Bool
 is_about_token Y1 = true
 is_about_token name = false
 
+-- whether a fault is about a name that nothing declares
+abbrev pub is_unknown : FaultName → Bool
+is_unknown S1 = true
+is_unknown name = false
+
 -- what stands outside of all processes
 abbrev pub outer_words : List (List ℕ)
 outer_words = codes "end" ∷ codes "process" ∷ codes "channel" ∷ codes "conversation" ∷ []
 
--- help in words, where there are some
-abbrev pub help_of : Option (List ℕ) → List ℕ
-help_of None = []
-help_of (Some words) = helped words
+-- help in words, where there are some, and else another remark
+abbrev pub help_or : Option (List ℕ) → List ℕ → List ℕ
+help_or None other = other
+help_or (Some words) other = helped words
 
--- a remark about a place, if there is one
-abbrev pub note_of : List ℕ → Option Place → List ℕ → List ℕ
-note_of source None words = []
-note_of source (Some place) words = noted source place words
+-- the word that a token was meant to be which can't stand here, among those that may; or the token before it, where that begins a statement
+abbrev pub word_told : List ℕ → List ℕ → List (List ℕ) → List ℕ
+word_told before here may = meant_or (meant_among here may) (meant_or (statement_meant before may) [])
+
+-- what was meant by a token that can't stand here, or by a name that nothing declares
+abbrev pub meant_told : List ℕ → FaultName → List ℕ → List Lexeme → List (List ℕ) → List ℕ
+meant_told source name here tokens may =
+    cond (is_about_token name) (word_told (text_of (last_of tokens)) here may) (cond (is_unknown name) (name_told source here tokens) [])
 
 -- whether a process should have ended at a place: the source does, or what stands outside of all processes begins
 abbrev pub ends_all : List ℕ → Place → Bool
@@ -64,13 +75,16 @@ missing_told source place last may =
 abbrev pub stray_remarks : List ℕ → SourceFault → List Lexeme → List (List ℕ) → List ℕ
 stray_remarks source fault tokens may = open_told source fault tokens ++ missing_told source fault.place (last_of tokens) may
 
--- the same of any fault that has remarks, with what is written here in place of what stands there
+-- the same of any fault that comes of what is written elsewhere, with what is written here in place of what stands there, or
+-- what was meant by it
 abbrev pub remarks_behind : List ℕ → SourceFault → List Lexeme → List (List ℕ) → List ℕ
 remarks_behind source fault tokens may =
-    help_of (habit_words (text_of (last_of tokens)) may (text_at fault.place (tokens_of source)) (from_place source fault.place))
+    help_or (habit_words (text_of (last_of tokens)) may (text_at fault.place (tokens_of source)) (from_place source fault.place))
+    (meant_told source fault.name (text_at fault.place (tokens_of source)) tokens may)
     ++ cond (is_about_token fault.name) (stray_remarks source fault tokens may) []
 
 -- the remarks about a fault, where these may stand at its place
 abbrev pub remarks : List ℕ → SourceFault → List (List ℕ) → List ℕ
 remarks source fault may =
-    cond (has_habits fault.name) (remarks_behind source fault (tokens_of (before source fault.place)) may) []
+    cond (has_habits fault.name) (remarks_behind source fault (tokens_of (before source fault.place)) may)
+    (second_place source fault.name (text_at fault.place (tokens_of source)) (tokens_of (before source fault.place)))

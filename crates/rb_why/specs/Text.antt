@@ -8,10 +8,12 @@ use Rattle.rb_base.specs.declared.fault.TextFault.{TextFault}
 use Rattle.rb_base.specs.declared.limits.TheConstants.{MOST_BYTES}
 use Rattle.rb_base.specs.declared.names.Names.{Names}
 use Rattle.rb_base.specs.declared.place.Place.{Place}
+use Rattle.rb_near.specs.Nearest.{nearest}
 use Rattle.rb_why.specs.Bytes.{carriage_return_words, has_cr, has_order_mark, order_mark_words}
-use Rattle.rb_frame.specs.Frame.{framed}
+use Rattle.rb_frame.specs.Frame.{framed_with}
 use Rattle.rb_why.specs.Likeness.{reads_like_source}
 use Rattle.rb_why.specs.Listed.{listed}
+use Rattle.rb_why.specs.Meant.{meant_or}
 use Rattle.rb_why.specs.Phrases.{sentence}
 use Rattle.rb_why.specs.Words.{from_word, word_at, words_line}
 
@@ -81,7 +83,13 @@ word_place text line number = record {
   column = min (length (words_line text line) - length (from_word number (words_line text line))) MOST_BYTES + 1;
 }
 
+-- the process that was meant, where a fault is about a name that none has
+abbrev pub process_meant : List ℕ → Option Names → FaultName → Option (List ℕ)
+process_meant line None name = None
+process_meant line (Some names) name = cond (is_about_process name) (nearest (subject line name) (process_names names)) None
+
 -- why a text of this file is refused for the fault of one of its lines
 abbrev pub text_told : List ℕ → List ℕ → Option Names → TextFault → List ℕ
 text_told file text names fault =
-    framed file text (word_place text fault.at (told_word fault.name)) (fault_word fault.name) (line_words text names fault)
+    framed_with file text (word_place text fault.at (told_word fault.name)) (fault_word fault.name) (line_words text names fault)
+    (meant_or (process_meant (words_line text fault.at) names fault.name) [])

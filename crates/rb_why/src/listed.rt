@@ -31,7 +31,7 @@ pub(crate) fn quoted(alloc: Global, word: &[u8]) -> Result<Vec<u8>, Memory>
 }
 
 /// Whether a word is one of these.
-pub(crate) fn is_among(words: &[&'static [u8]], word: &[u8]) -> bool
+pub(crate) fn is_among(words: &[&[u8]], word: &[u8]) -> bool
     ensures { result ≡ is_one_of (map (λ w. w.now) words.now) word.now }
 {
     let mut rest = words;
@@ -56,4 +56,18 @@ pub(crate) fn processes_listed(alloc: Global, names: &Names) -> Result<Vec<u8>, 
         rest = after;
     }
     Ok(told)
+}
+
+/// The names of the processes of a program, in the order of declaration.
+#[tactic(auto, using(crate::proofs::Listing::text_pushed))]
+pub(crate) fn process_texts<'n>(alloc: Global, names: &'n Names) -> Result<Vec<&'n [u8]>, Memory>
+    ensures { IfOk result (λ texts. map (λ text. text.now) texts.items ≡ process_names names.now) }
+{
+    let mut texts = Vec::new(alloc);
+    let mut rest = names.processes.as_slice();
+    while let [process, after @ ..] = rest {
+        texts.push(process.name.as_bytes())?;
+        rest = after;
+    }
+    Ok(texts)
 }

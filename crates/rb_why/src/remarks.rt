@@ -2,15 +2,17 @@
 
 ghost use Rattle.std.specs.Prelude.{◌≡◌, ◌≤◌, [], cond, length, map, option_map, IfOk};
 ghost use Rattle.rb_lex.specs.Reader.{lexeme_of};
-ghost use Rattle.rb_why.specs.Remarks.{ends_all, has_habits, help_of, is_about_token, line_end, missing_told, note_of, open_told, outer_words, remarks, remarks_behind, stray_remarks};
+ghost use Rattle.rb_why.specs.Remarks.{ends_all, has_habits, help_or, is_about_token, is_unknown, line_end, meant_told, missing_told, open_told, outer_words, remarks, remarks_behind, stray_remarks, word_told};
 
 use crate::bytes::from_place;
 use crate::habits::{Spot, habit_words};
 use crate::listed::is_among;
+use crate::meant::{meant_among, meant_or, statement_meant};
+use crate::named::{name_told, note_of, second_place};
 use crate::open::{innermost_open, last_token, text_of};
 use crate::tokens::{token_text, tokens_of};
 use rb_base::{FaultName, MOST_BYTES, Memory, Place, SourceFault};
-use rb_frame::frame::{help, note};
+use rb_frame::frame::help;
 use rb_frame::joined::joined;
 use rb_frame::lines::before;
 use rb_lex::Token;
@@ -26,19 +28,21 @@ pub(crate) fn remarks(
     requires { length source.now ≤ MOST_BYTES }
     ensures { IfOk result (λ told. told.items ≡ remarks source.now fault (map (λ token. token.now) may.now)) }
 {
-    if !has_habits(fault.name) {
-        return Ok(Vec::new(alloc));
-    }
     let tokens = tokens_of(alloc, before(source, fault.place))?;
-    remarks_behind(alloc, source, fault, tokens.as_slice(), may)
+    if has_habits(fault.name) {
+        remarks_behind(alloc, source, fault, tokens.as_slice(), may)
+    } else {
+        let here = token_text(source, fault.place);
+        second_place(alloc, source, fault.name, here, tokens.as_slice())
+    }
 }
 
 // Those about a fault behind these tokens.
-fn remarks_behind(
+fn remarks_behind<'a>(
     alloc: Global,
-    source: &[u8],
+    source: &'a [u8],
     fault: SourceFault,
-    tokens: &[Token<'_>],
+    tokens: &[Token<'a>],
     may: &[&'static [u8]],
 ) -> Result<Vec<u8>, Memory>
     requires { length source.now ≤ MOST_BYTES }
@@ -51,7 +55,8 @@ fn remarks_behind(
         token: token_text(source, fault.place),
         bytes: from_place(source, fault.place),
     };
-    let habit = help_of(alloc, habit_words(spot))?;
+    let meant = meant_told(alloc, source, fault.name, spot.token, tokens, may)?;
+    let habit = help_or(alloc, habit_words(spot), meant.as_slice())?;
     let stray = if_stray(alloc, source, fault, tokens, may)?;
     joined(alloc, &[habit.as_slice(), stray.as_slice()])
 }
@@ -136,28 +141,48 @@ fn line_end(place: Place, last: Option<Token<'_>>) -> Option<Place>
     }
 }
 
-// Help in words, where there are some.
-fn help_of(alloc: Global, words: Option<&'static [u8]>) -> Result<Vec<u8>, Memory>
-    ensures { IfOk result (λ told. told.items ≡ help_of (option_map (λ w. w.now) words.entry)) }
+// What was meant by a token that can't stand here, or by a name that nothing declares.
+fn meant_told<'a>(
+    alloc: Global,
+    source: &'a [u8],
+    name: FaultName,
+    here: &[u8],
+    tokens: &[Token<'a>],
+    may: &[&'static [u8]],
+) -> Result<Vec<u8>, Memory>
+    requires { length source.now ≤ MOST_BYTES }
+    ensures { IfOk result (λ told. told.items ≡
+        meant_told source.now name here.now (map lexeme_of tokens.now) (map (λ token. token.now) may.now)) }
 {
-    match words {
-        Some(words) => help(alloc, words),
-        None => Ok(Vec::new(alloc)),
+    if is_about_token(name) {
+        word_told(alloc, text_of(last_token(tokens)), here, may)
+    } else if is_unknown(name) {
+        name_told(alloc, source, here, tokens)
+    } else {
+        Ok(Vec::new(alloc))
     }
 }
 
-// A remark about a place, if there is one.
-fn note_of(
+// The word that a token was meant to be which can't stand here, or the one before it.
+fn word_told(
     alloc: Global,
-    source: &[u8],
-    place: Option<Place>,
-    words: &[u8],
+    before: &[u8],
+    here: &[u8],
+    may: &[&'static [u8]],
 ) -> Result<Vec<u8>, Memory>
-    ensures { IfOk result (λ told. told.items ≡ note_of source.now place words.now) }
+    ensures { IfOk result (λ told. told.items ≡ word_told before.now here.now (map (λ token. token.now) may.now)) }
 {
-    match place {
-        Some(place) => note(alloc, source, place, words),
-        None => Ok(Vec::new(alloc)),
+    let other = meant_or(alloc, statement_meant(before, may), b"")?;
+    meant_or(alloc, meant_among(here, may), other.as_slice())
+}
+
+// Help in words, where there are some, and else another remark.
+fn help_or(alloc: Global, words: Option<&'static [u8]>, other: &[u8]) -> Result<Vec<u8>, Memory>
+    ensures { IfOk result (λ told. told.items ≡ help_or (option_map (λ w. w.now) words.entry) other.now) }
+{
+    match words {
+        Some(words) => help(alloc, words),
+        None => joined(alloc, &[other]),
     }
 }
 
@@ -180,4 +205,11 @@ pub(crate) fn is_about_token(name: FaultName) -> bool
     ensures { result ≡ is_about_token name }
 {
     matches!(name, FaultName::Y1)
+}
+
+// Whether a fault is about a name that nothing declares.
+fn is_unknown(name: FaultName) -> bool
+    ensures { result ≡ is_unknown name }
+{
+    matches!(name, FaultName::S1)
 }

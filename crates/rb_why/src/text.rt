@@ -1,15 +1,17 @@
 //! Why a schedule, a record, a session or a history is refused, in words.
 
-ghost use Rattle.std.specs.Prelude.{◌≡◌, option_map, IfOk};
-ghost use Rattle.rb_why.specs.Text.{is_about_process, is_about_word, line_words, names_process, subject, text_told, told_word, with_processes, word_place, word_words};
+ghost use Rattle.std.specs.Prelude.{◌≡◌, [], option_map, IfOk};
+ghost use Rattle.rb_why.specs.Meant.{meant_or};
+ghost use Rattle.rb_why.specs.Text.{is_about_process, is_about_word, line_words, names_process, process_meant, subject, text_told, told_word, with_processes, word_place, word_words};
 
 use crate::bytes::{carriage_return_sentence, has_cr, has_order_mark, order_mark_sentence};
 use crate::likeness::reads_like_source;
-use crate::listed::processes_listed;
+use crate::listed::{process_texts, processes_listed};
+use crate::meant::nearest_told;
 use crate::phrases::sentence;
 use crate::words::{from_word, word_at, words_line};
 use rb_base::{FaultName, MOST_BYTES, Memory, Names, Place, TextFault};
-use rb_frame::frame::frame;
+use rb_frame::frame::frame_with;
 use rb_frame::joined::joined;
 use std::alloc::Global;
 
@@ -26,14 +28,35 @@ pub fn text_reason(
 {
     let words = line_sentence(alloc, text, names, fault)?;
     let place = word_place(text, fault.at, told_word(fault.name));
-    frame(
+    let meant = process_told(alloc, words_line(text, fault.at), names, fault.name)?;
+    frame_with(
         alloc,
         file,
         text,
         place,
         fault.name.word(),
         words.as_slice(),
+        meant.as_slice(),
     )
+}
+
+// The process that was meant, where a fault is about a name that none has.
+fn process_told(
+    alloc: Global,
+    line: &[u8],
+    names: Option<&Names>,
+    name: FaultName,
+) -> Result<Vec<u8>, Memory>
+    ensures { IfOk result (λ told. told.items ≡ meant_or (process_meant line.now (option_map (λ n. n.now) names.entry) name) []) }
+{
+    let Some(names) = names else {
+        return Ok(Vec::new(alloc));
+    };
+    if !is_about_process(name) {
+        return Ok(Vec::new(alloc));
+    }
+    let others = process_texts(alloc, names)?;
+    nearest_told(alloc, subject(line, name), others.as_slice())
 }
 
 /// The place of a word of a line, from 0.
