@@ -10,7 +10,7 @@ from .shared import ROOT, Cases, text_of
 
 # The most words of a page, and of those that are not named here.
 MOST_WORDS = {"README.md": 1_100, "docs/LANGUAGE.md": 12_000, "docs/MACHINE.md": 6_000, "docs/PROOFS.md": 5_000,
-              "docs/VIEW.md": 6_100}
+              "docs/VIEW.md": 6_600}
 MOST_OF_OTHERS = 4_000
 MOST_OF_A_CRATE = 1_600
 
