@@ -1,8 +1,8 @@
-"""The examples of the docs, and those of `examples`: the program answers what they show, byte by byte; and the links between the pages.
+"""The examples of the docs, and those of `examples`: the program answers what they show, byte by byte.
 
 What is looked at is told in tests/checking, file by file.
 """
-from .checking import files, links, pages, tables
+from .checking import files, pages, tables
 from .checking.program import PAGES
 from .shared import Cases
 
@@ -18,9 +18,6 @@ class Examples(Cases):
     def told(self, checks):
         """What each check came to; there is one at least."""
         self.each(checks, lambda wrong: wrong)
-
-    def test_links(self):
-        self.told(of_pages(links.links))
 
     def test_blocks(self):
         self.told(of_pages(pages.blocks))

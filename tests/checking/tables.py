@@ -75,7 +75,7 @@ def faults():
     for row in rows:
         fault, cells = row.group(1), row.group(2).split(" | ")
         if fault[0] == "N" and fault not in IN_WORDS:
-            continue  # their examples are blocks
+            continue  # `rblview explain` has their examples, which `./test reasons` tries
         text, place = example(fault, cells[2] if len(cells) > 2 else "")
         real = answered(fault, text)
         right = f"refused {fault}" + (f" at {place}" if place else "")

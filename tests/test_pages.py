@@ -1,0 +1,96 @@
+"""The pages for readers: how many words each has at most, where links lead, and that each crate has a page, and what it names is there."""
+import functools
+import glob
+import os
+import re
+
+from .checking import links
+from .checking.program import PAGES, line_of
+from .shared import ROOT, Cases, text_of
+
+# The most words of a page, and of those that are not named here.
+MOST_WORDS = {"README.md": 1_100, "docs/LANGUAGE.md": 12_000, "docs/MACHINE.md": 6_000, "docs/PROOFS.md": 5_000,
+              "docs/VIEW.md": 6_600}
+MOST_OF_OTHERS = 4_000
+MOST_OF_A_CRATE = 1_600
+
+CRATE = re.compile(r"^(\w+)[^:\n]*:", re.MULTILINE)
+PATH = re.compile(r"`((?:src|specs|proofs|must-fail|rb_\w+)/[\w./*-]*)`")
+NAME = re.compile(r"`((?:\w+::)*\w+)`")
+WORD = re.compile(r"\w+")
+
+
+def is_there(page):
+    """Whether a page stands there."""
+    return os.path.exists(os.path.join(ROOT, page))
+
+
+def wanted_pages():
+    """The page that each crate of crates.txt is to have."""
+    listed = re.sub(r"^#.*\n", "", text_of("crates.txt"), flags=re.MULTILINE)
+    return [f"crates/{name}/README.md" for name in CRATE.findall(listed)]
+
+
+def pages_of_crates():
+    """Those of them that are there."""
+    return list(filter(is_there, wanted_pages()))
+
+
+@functools.cache
+def words_of_sources():
+    """All words of the sources of all crates, of the programs and of their definitions and proofs, and the names of their files."""
+    found = set()
+    for kind in ("rt", "antt"):
+        for path in glob.glob(os.path.join(ROOT, f"crates/*/*/**/*.{kind}"), recursive=True):
+            if "/out/" not in path:
+                found.update(WORD.findall(text_of(path)), [os.path.splitext(os.path.basename(path))[0]])
+    return found
+
+
+def length(page):
+    """What is wrong with the length of a page."""
+    words = len(text_of(page).split())
+    most = MOST_OF_A_CRATE if page.startswith("crates/") else MOST_WORDS.get(page, MOST_OF_OTHERS)
+    return f"it has {words} words, and may have {most}" if words > most else None
+
+
+def wrong_path(page, path):
+    """What is wrong with a path that the page of a crate names: it begins in the crate, or with the name of another one."""
+    top = "crates" if path.startswith("rb_") else os.path.dirname(page)
+    return None if glob.glob(os.path.join(ROOT, top, path)) or glob.glob(os.path.join(ROOT, top, f"{path}.antt")) else f"{path} is no file"
+
+
+def wrong_name(name):
+    """What is wrong with a name in backquotes: each of its words that looks like one of code stands in the sources."""
+    words = [word for word in name.split("::") if "_" in word or re.search(r"[a-z][A-Z]", word)]
+    missing = [word for word in words if word not in words_of_sources() and not os.path.exists(os.path.join(ROOT, "crates", word))]
+    return f"no source has {missing}" if missing else None
+
+
+def named(page):
+    """What the page of a crate names, each with what is wrong with it."""
+    text = links.without_blocks(text_of(page))
+    for path in PATH.finditer(text):
+        yield f"{page}:{line_of(text, path.start())}", wrong_path(page, path.group(1))
+    for name in NAME.finditer(text):
+        yield f"{page}:{line_of(text, name.start())}", wrong_name(name.group(1))
+
+
+class Pages(Cases):
+    PROGRAMS = ()
+
+    def test_lengths(self):
+        self.each([(page, page) for page in [*PAGES, *pages_of_crates()]], length)
+
+    def test_crates_have_pages(self):
+        self.each([(page, page) for page in wanted_pages()], lambda page: None if is_there(page) else "it is not there")
+
+    def test_crates_are_listed(self):
+        listed = text_of("docs/CRATES.md")
+        self.each([(page, f"(../{page}) |") for page in wanted_pages()], lambda link: None if link in listed else "no row of it")
+
+    def test_named_by_crates(self):
+        self.each([case for page in pages_of_crates() for case in named(page)], lambda wrong: wrong)
+
+    def test_links(self):
+        self.each([check for page in [*PAGES, *pages_of_crates()] for check in links.links(page)], lambda wrong: wrong)
