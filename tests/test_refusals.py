@@ -33,6 +33,9 @@ SOURCES = {
 # The commands over each of them: its record is `r`, its image `i`.
 COMMANDS = ["run a b", "survive a b", "plain a r", "check a", "code a", "stuck a b", "session a b c", "compile a", "load i b", "trace a b", "page page a b"]
 
+# Those that have none, and the search over all schedules, of a program with few worlds.
+ALONE = ["domino h", "trial 0", "explain N4", "explore s", "explore s 1"]
+
 # Texts that are refused, by the names of the files: the reason of each takes another way.
 REFUSED = {
     "a name": (["check", "a"], {"a": "program a; process p { x := 1; } end.\n"}),
@@ -41,6 +44,7 @@ REFUSED = {
     "a record": (["plain", "a", "b"], {"a": "program a; process p { } end.\n", "b": "3 p\n"}),
     "an image": (["load", "a", "b"], {"a": "no image", "b": "p 1\n"}),
     "a history": (["domino", "a"], {"a": "process p\nfail q\n"}),
+    "an outcome": (["explore", "a", "2"], {"a": "program a; process p { } end.\n"}),
 }
 
 # Small files, which are read and written one byte at a time, and the commands over them.
@@ -51,7 +55,8 @@ SMALL = {
     "s": "show p\nstep 2\nshow p",
     "h": "process p\npoint p\nfail p",
 }
-BYTEWISE = ["run a b", "survive a b", "plain a r", "check a", "code a", "stuck a b", "session a b s", "domino h", "compile a", "load i b", "trial 0", "run a a", "go"]
+BYTEWISE = ["run a b", "survive a b", "plain a r", "check a", "code a", "stuck a b", "session a b s", "domino h", "compile a", "load i b", "trial 0",
+            "explore a", "explore a 1", "run a a", "go"]
 
 
 def with_image(files):
@@ -145,9 +150,9 @@ class Refusals(Cases):
         """Each command over each source, and those that have none."""
         with contextlib.ExitStack() as folders:
             there = {name: folders.enter_context(folder_of(files_of(*source))) for name, source in SOURCES.items()}
-            alone = folders.enter_context(folder_of({"h": text_of("examples/domino.history")}))
+            alone = folders.enter_context(folder_of({"h": text_of("examples/domino.history"), "s": SMALL["a"]}))
             cases = [(f"{line}, {name}", line.split(), folder, STATUS) for name, folder in there.items() for line in COMMANDS]
-            self.refused(cases + [(line, line.split(), alone, STATUS) for line in ("domino h", "trial 0", "explain N4")], refused_in_turn)
+            self.refused(cases + [(line, line.split(), alone, STATUS) for line in ALONE], refused_in_turn)
 
     def test_refused_texts(self):
         """Texts that are refused: each reason takes another way."""
