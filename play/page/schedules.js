@@ -69,6 +69,7 @@ function showOutcomes(outcomes) {
   const cards = outcomes.slice(0, MOST_OUTCOMES).map(one => cardOf(one, isCommon)), left = outcomes.length - cards.length;
   if (left > 0) cards.push(made("li", { class: "note" }, `${many(left, "outcome")} more in the file that Save makes`));
   element("outcomes").replaceChildren(...cards);
+  element("outcomes").inert = false;
 }
 
 // The outcome whose schedule stands in the editor.
@@ -83,6 +84,7 @@ async function fillSchedules(tab, run) {
   if (!search) {
     search = { program, told: explore(program), isShown: false, schedules: new Map(), wanted: "" };
     panel.classList.add("old");
+    element("outcomes").inert = true;
     saySearch("Looking at all schedules: this can take minutes.", true);
   }
   const mine = search, told = await mine.told;
@@ -103,25 +105,31 @@ function showSearch(tab, told) {
   if (told.status === 5) text.textContent = "There is not enough memory for this search.";
 }
 
-// Opens a shortest schedule of an outcome, and draws its run.
+// Opens a shortest schedule of an outcome, and draws its run. The last outcome that was chosen counts.
 async function chooseOutcome(number) {
   const mine = search;
-  if (!mine || mine.program !== textIn("program") || mine.wanted === number) return;
-  if (!mine.schedules.has(number)) {
+  if (!mine || mine.wanted === number) return;
+  mine.wanted = number;
+  if (mine.schedules.has(number)) stopSearch();
+  else {
     saySearch(`Looking for a schedule of outcome ${number}.`, true);
-    mine.wanted = number;
     const told = await explore(mine.program, number);
     if (mine !== search || mine.wanted !== number) return;
-    mine.wanted = "";
-    saySearch(told.status === 0 ? mine.says : outcomeInWords(told, null), false);
-    if (told.status !== 0) return;
-    mine.schedules.set(number, textOfBytes(told.out));
+    if (told.status === 0) mine.schedules.set(number, textOfBytes(told.out));
+    else saySearch(outcomeInWords(told, null), false);
   }
+  mine.wanted = "";
+  if (mine.schedules.has(number)) openSchedule(mine, mine.schedules.get(number));
+}
+
+function openSchedule({ program, says }, schedule) {
+  saySearch(says, false);
+  if (program !== textIn("program")) return;
   chooseTab(TABS[0]);
   element("tab-picture").focus();
   forgetLink();
   notice("");
-  putTexts({ schedule: mine.schedules.get(number) });
+  putTexts({ schedule });
   runNow();
 }
 
