@@ -34,6 +34,8 @@ async function outcomes(page) {
   same("the picture is shown", await chosenTab(page), "tab-picture");
   await page.tab("schedules");
   same("it is marked", await page.ask(`document.querySelector("#outcomes [aria-current] button").textContent`), "2 ended after 38 turns");
+  await page.ask("dispatchEvent(new Event('beforeprint'))");
+  same("outcomes on paper", (await page.told("paper")).endsWith(explored(program).out), true);
   await page.ask(`document.querySelector("#panel-schedules > button").id = "saveoutcomes"`);
   same("outcomes as a file", (await page.file("saveoutcomes")).join("|"), `step4.explore|${explored(program).out}`);
   await page.ask(`${Driven.editor("schedule")}.undo()`);
@@ -61,6 +63,7 @@ async function stuckAtOnce(page) {
 async function stoppedSearch(page) {
   await page.put({ program: MANY, schedule: "p 3\n" });
   same("a search can be stopped", await page.until(GOES_ON), true);
+  same("older outcomes cannot be chosen", await page.ask(`document.getElementById("outcomes").inert`), true);
   await page.click("tab-printed");
   const isTold = `document.querySelector("#panel-printed pre").textContent.startsWith("end 3\\n")`;
   same("a run goes on beside it", await page.until(isTold, 5000), true);
@@ -106,6 +109,11 @@ async function searchesAmiss(page) {
   const says = "1 outcome. The search was stopped at 16,777,216 worlds, 20,000,000 turns: outcomes may be missing. " +
     "Whether it always comes to rest is not known.";
   same("a search that reached its bounds", await page.told("searched"), says);
+  const many = Array.from({ length: 501 }, (_, at) => `outcome ${at + 1} ended after ${at}\np done\np.x = ${at}\n`);
+  await opened("crowded", of(0, `states 600 turns 600 complete\nends always\n${many.join("")}`));
+  same("the last of many outcomes", (await heads(page)).endsWith(", 500 ended after 499 turns"), true);
+  const more = await page.ask(`document.querySelector("#outcomes li:last-child").textContent`);
+  same("what is left out of many outcomes", more, "1 outcome more in the file that Save makes");
   same("want of memory for a search", await opened("bare", of(5, "")), "There is not enough memory for this search.");
   const trap = `(() => { throw new WebAssembly.RuntimeError("unreachable"); })()`;
   same("a search that breaks down", await opened("broken", trap), "The engine broke down (RuntimeError: unreachable); another was started.");
