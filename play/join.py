@@ -26,7 +26,7 @@ GRAMMARS = {"program": "editors/vscode/syntaxes/rbl.tmLanguage.json", "schedule"
 # Each script stands on those before it: those that come before anything is seen, and those of the page. The worker's run in the engine's thread.
 FIRST_SCRIPTS = ["view/parts/palette.js", "play/page/keeping.js", "play/page/theme.js", "play/page/packed.js"]
 SCRIPTS = ["view/parts/drawn.js"] + [f"play/page/{name}.js" for name in (
-    "page", "bytes", "grammar", "editors", "marks", "thread", "reason", "outcome", "picture", "tabs", "running", "lessons", "links",
+    "page", "bytes", "grammar", "editors", "marks", "thread", "reason", "outcome", "picture", "schedules", "tabs", "running", "lessons", "links",
     "files", "printing", "start")]
 WORKER = ["play/engine.js", "play/page/packed.js", "play/page/worker.js"]
 

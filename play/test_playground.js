@@ -9,6 +9,7 @@ const http = require("http"), fs = require("fs"), path = require("path"), zlib =
 const { Browser } = require("../view/browser.js"), cases = require("../view/cases.js");
 const { PAGE, OUT, example, addressOf, changedPage, same } = require("./native.js");
 const { Driven, inTurn, wait } = require("./driven.js"), trials = require("./trials.js"), pictures = require("./trials_picture.js");
+const schedules = require("./trials_schedules.js");
 
 const SHIFT = 8;
 
@@ -129,6 +130,26 @@ async function keyboard(page) {
   same("the editor lets the key Tab through", await page.ask(`document.activeElement.id`), "schedulesave");
 }
 
+// The outcomes by the keyboard alone: the button of the search, each outcome, and Enter, which opens one.
+async function keysOfSchedules(page) {
+  await page.open(addressOf(PAGE));
+  await page.tab("schedules");
+  await page.ask(`document.getElementById("tab-schedules").focus()`);
+  const reached = [];
+  for (let k = 0; k < 4; k++) {
+    await page.browser.key("Tab");
+    reached.push(await page.ask(`document.activeElement.getAttribute("aria-label") || document.activeElement.textContent`));
+  }
+  const outcomes = ["1 ended after 27 turns", "2 ended after 38 turns"];
+  same("the key Tab reaches outcomes", reached.join("; "), ["Explore all schedules", ...outcomes, "Save what explore prints"].join("; "));
+  await page.browser.key("Tab", SHIFT);
+  await page.browser.send("Input.dispatchKeyEvent", { type: "keyDown", key: "Enter", windowsVirtualKeyCode: 13, text: "\r" });
+  same("the key Enter opens one", await page.drawn(38), true);
+  same("the focus is on its picture's tab", await page.ask("document.activeElement.id"), "tab-picture");
+  const { nodes } = await page.browser.send("Accessibility.getFullAXTree");
+  same("names with it", nodes.filter(({ ignored, role, name }) => !ignored && role?.value === "button" && !name?.value).length, 0);
+}
+
 // On a phone nothing is wider than the page; dark colours reach the picture.
 async function looks(page) {
   await page.browser.size(390, 844);
@@ -146,6 +167,22 @@ async function looks(page) {
   await page.ask("dispatchEvent(new Event('beforeprint'))");
   same("texts on paper", await page.ask(`document.getElementById("paper").textContent.includes("converse Deal ensure")`), true);
   same("the picture on paper", await page.ask(`document.querySelectorAll("#paper .strip svg .lane, #paper .strip svg .base").length > 0`), true);
+}
+
+// Outcomes on a phone, in a window of middling width, and in a wide one, in both themes: nothing is wider than the page.
+async function looksOfOutcomes(page) {
+  for (const [name, width, height, theme] of [["phone", 390, 844, "light"], ["middling", 768, 1024, "dark"], ["wide", 1440, 900, "light"]]) {
+    await page.browser.size(width, height);
+    await page.open(addressOf(PAGE, "#example=step4"));
+    await page.select("theme", theme);
+    await page.tab("schedules");
+    same(`outcomes fit: ${name}`, await page.ask("document.documentElement.scrollWidth <= innerWidth"), true);
+    const seen = `[...document.querySelectorAll("#outcomes li")].every(card => card.scrollWidth <= card.clientWidth && card.clientHeight > 100)`;
+    same(`they can be read: ${name}`, await page.ask(seen), true);
+    await page.ask(`document.getElementById("shown").scrollIntoView()`);
+    await page.browser.shot(`outcomes.${name}`);
+  }
+  await page.browser.size(1400, 900);
 }
 
 // The same page from a server.
@@ -193,8 +230,8 @@ async function speed(page) {
 async function main() {
   const browser = await Chromium.begin(process.env.CHROMIUM || "chromium"), page = new Driven(browser);
   await browser.size(1400, 900);
-  await inTurn(page, [...Object.values(trials), ...Object.values(pictures)]);
-  await inTurn(page, [nothingGoesOut, oldBrowsers, chosenFiles, keyboard, looks, fromServer, speed]);
+  await inTurn(page, [trials, pictures, schedules].flatMap(Object.values));
+  await inTurn(page, [nothingGoesOut, oldBrowsers, chosenFiles, keyboard, keysOfSchedules, looks, looksOfOutcomes, fromServer, speed]);
   same("no errors of scripts", browser.errors.filter(error => !/example\.invalid|EvalError/.test(error)).join("; "), "");
   await browser.stop();
   cases.end();

@@ -60,6 +60,7 @@ async function run() {
   clearTimeout(timer);
   setSettled(false);
   const mine = current = new Run(texts()), from = performance.now();
+  leaveSearch(mine.texts.program);
   if (location.hash.length < 2) keep("texts", JSON.stringify(mine.texts)); // those of a link are kept by it
   for (const end = performance.now() + PATIENCE; thread.isBusy && performance.now() < end;) await wait(10);
   if (mine !== current) return;

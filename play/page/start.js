@@ -13,6 +13,7 @@ function listen() {
   addEventListener("beforeprint", layPaper);
   addEventListener("keydown", event => {
     if (event.key === "Escape" && !element("stop").hidden) stop();
+    else if (event.key === "Escape" && !element("panel-schedules").hidden) stopSearch();
     if (event.key === "Escape") element("help").open = false;
   });
   listenToDrops();
@@ -32,6 +33,7 @@ async function start() {
   picture.page = view;
   addDrawnStyle();
   makeTabs();
+  makeSchedules();
   makePicture(view);
   addScript(editor);
   const grammars = JSON.parse(element("grammars").textContent);

@@ -16,6 +16,10 @@ const TABS = [
     says: "The turns that stood, run alone, with nothing ever rejected: they print the same lines, and end with the same values.",
   },
   { id: "stuck", title: "Stuck?", command: "stuck", takes: BOTH, says: "Whether anything can still go on after the turns of the schedule." },
+  {
+    id: "schedules", title: "All schedules", command: "explore", fill: fillSchedules,
+    says: "What the program can come to, over every schedule. An outcome opens a shortest schedule that leads there.",
+  },
   { id: "listing", title: "Listing", command: "code", takes: ["program"], says: "The instructions that the program is compiled to." },
 ];
 // Of a longer text its first and its last lines are shown.
@@ -32,16 +36,19 @@ function shortened(text) {
 
 // What a command printed; while it is on its way, and after a stop, what stood there before is dim.
 async function fillText(tab, run) {
-  const panel = element(`panel-${tab.id}`), text = panel.querySelector("pre");
-  panel.classList.add("old");
+  element(`panel-${tab.id}`).classList.add("old");
   const told = await run.answer(tab.command, tab.takes, tab.program);
-  if (run !== current) return;
+  if (run === current) showTold(tab, told);
+}
+
+function showTold(tab, told) {
+  const panel = element(`panel-${tab.id}`), text = panel.querySelector("pre"), save = panel.lastElementChild;
   const isPrinted = Boolean(told.out && (told.status === 0 || told.out.length));
   // Why a run is refused stands beside the texts; why this command alone refuses something, here.
   const why = isPrinted && !fault.now ? textOfBytes(told.reason) : "";
   text.textContent = isPrinted ? shortened(textOfBytes(told.out)) + (why && `\n${why}`) : outcomeInWords(told, null);
-  panel.querySelector("button").onclick = () => download(`${nameOfProgram()}.${tab.command}`, "text/plain", told.out);
-  panel.querySelector("button").hidden = !isPrinted;
+  save.onclick = () => download(`${nameOfProgram()}.${tab.command}`, "text/plain", told.out);
+  save.hidden = !isPrinted;
   panel.classList.remove("old");
 }
 
@@ -71,7 +78,7 @@ function makeTabs() {
     element("tabs").append(button);
     const panel = made("div", { role: "tabpanel", id: `panel-${tab.id}`, "aria-labelledby": `tab-${tab.id}` });
     element("panels").append(panel);
-    if (tab.fill) continue;
+    if (!tab.command) continue;
     const text = made("pre", { tabindex: 0, role: "group", "aria-label": tab.title });
     panel.append(made("p", { class: "note" }, tab.says), text, made("button", { "aria-label": `Save what ${tab.command} prints` }, "Save"));
   }
