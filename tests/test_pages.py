@@ -1,17 +1,19 @@
-"""The pages for readers: how many words each has at most, where links lead, and that each crate has a page, and what it names is there."""
+"""The pages for readers: how many words they have at most, where links lead, that each crate has a page, that what it names is there, and that the
+tables of faults and causes are those that the texts of `rblview explain` give."""
 import functools
 import glob
 import os
 import re
 
-from .checking import links
+from .checking import faults_table, links
 from .checking.program import PAGES, line_of
 from .shared import ROOT, Cases, text_of
 
-# The most words of a page, and of those that are not named here.
+# The most words of a page, of those that are not named here, and of all together. CLASSICS.md has lessons, which are not counted among these.
 MOST_WORDS = {"README.md": 1_100, "docs/LANGUAGE.md": 12_000, "docs/MACHINE.md": 6_000, "docs/PROOFS.md": 5_000,
               "docs/VIEW.md": 6_600}
 MOST_OF_OTHERS = 4_000
+MOST_OF_ALL = 51_000
 MOST_OF_A_CRATE = 1_600
 
 CRATE = re.compile(r"^(\w+)[^:\n]*:", re.MULTILINE)
@@ -47,9 +49,14 @@ def words_of_sources():
     return found
 
 
+def words_of(page):
+    """How many words a page has."""
+    return len(text_of(page).split())
+
+
 def length(page):
     """What is wrong with the length of a page."""
-    words = len(text_of(page).split())
+    words = words_of(page)
     most = MOST_OF_A_CRATE if page.startswith("crates/") else MOST_WORDS.get(page, MOST_OF_OTHERS)
     return f"it has {words} words, and may have {most}" if words > most else None
 
@@ -81,6 +88,13 @@ class Pages(Cases):
 
     def test_lengths(self):
         self.each([(page, page) for page in [*PAGES, *pages_of_crates()]], length)
+
+    def test_length_of_all(self):
+        words = sum(words_of(page) for page in PAGES if page != "docs/CLASSICS.md")
+        self.assertLessEqual(words, MOST_OF_ALL, "words of all pages together")
+
+    def test_tables_of_faults(self):
+        self.each([(name, name) for name in faults_table.HEADS], faults_table.wrong_table)
 
     def test_crates_have_pages(self):
         self.each([(page, page) for page in wanted_pages()], lambda page: None if is_there(page) else "it is not there")
