@@ -40,7 +40,7 @@ def wrong_table(name):
     found = between(name).search(text_of(PAGE))
     if not found:
         return f"{PAGE} has no marks of the table of {name}"
-    return None if found.group(1) == table(name) else "it is none that examples/explained gives; python3 -m tests.checking.faults_table writes it anew"
+    return None if found.group(1) == table(name) else "python3 -m tests.checking.faults_table writes another one"
 
 
 def write_tables():
