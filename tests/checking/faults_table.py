@@ -32,7 +32,7 @@ def table(name):
     words = dict(zip(HEADS, faults_and_causes()))[name]
     kind, form = HEADS[name]
     rows = [f"| {form.format(word)} | {meaning(word)} |\n" for word in words]
-    return "".join([f"| {kind} | when |\n", "|---|---|\n", *rows])
+    return "".join([f"\n| {kind} | when |\n", "|---|---|\n", *rows, "\n"])
 
 
 def wrong_table(name):
