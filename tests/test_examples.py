@@ -28,9 +28,6 @@ class Examples(Cases):
     def test_code_in_tables(self):
         self.told(of_pages(pages.listed_code))
 
-    def test_faults(self):
-        self.told(tables.faults())
-
     def test_exit_statuses(self):
         self.told(tables.statuses())
 
