@@ -12,7 +12,7 @@ from .shared import ROOT, Cases, text_of
 MOST_WORDS = {"README.md": 1_100, "docs/LANGUAGE.md": 12_000, "docs/MACHINE.md": 6_000, "docs/PROOFS.md": 5_000,
               "docs/VIEW.md": 6_600}
 MOST_OF_OTHERS = 4_000
-MOST_OF_A_CRATE = 1_600
+MOST_IN = {"crates/": 1_600, "docs/lessons/": 1_200}
 
 CRATE = re.compile(r"^(\w+)[^:\n]*:", re.MULTILINE)
 PATH = re.compile(r"`((?:src|specs|proofs|must-fail|rb_\w+)/[\w./*-]*)`")
@@ -50,7 +50,8 @@ def words_of_sources():
 def length(page):
     """What is wrong with the length of a page."""
     words = len(text_of(page).split())
-    most = MOST_OF_A_CRATE if page.startswith("crates/") else MOST_WORDS.get(page, MOST_OF_OTHERS)
+    of_its_kind = [most for folder, most in MOST_IN.items() if page.startswith(folder)]
+    most = MOST_WORDS.get(page, *of_its_kind or [MOST_OF_OTHERS])
     return f"it has {words} words, and may have {most}" if words > most else None
 
 
