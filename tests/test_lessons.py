@@ -1,4 +1,4 @@
-"""The exercises of the lessons: tools/check_exercise takes each solution, says of the unchanged file what differs, and knows each exercise."""
+"""The lessons: their list says what they say, and tools/check_exercise takes each solution and says of the unchanged file what differs."""
 import glob
 import os
 import re
@@ -14,20 +14,20 @@ ASKED = re.compile(r"^\((\w)\) .* `tools/check_exercise (\w+) FILE`$", re.MULTIL
 SOLVED = re.compile(r"^\*\*\((\w)\)\*\* .*?^```(?:diff \S+|schedule) (\S+)$", re.MULTILINE | re.DOTALL)
 
 
-def lessons(folder="docs/lessons"):
-    """The number and the text of each page of a lesson, or of its answers."""
+def pages(folder="docs/lessons"):
+    """The name and the text of each page of a lesson, or of its answers."""
     paths = sorted(glob.glob(os.path.join(ROOT, folder, "[0-9]*.md")))
-    return [(int(os.path.basename(path)[:2]), text_of(os.path.relpath(path, ROOT))) for path in paths]
+    return [(os.path.basename(path), text_of(os.path.relpath(path, ROOT))) for path in paths]
 
 
 def asked():
     """The exercises that the lessons ask: lesson with letter, and the name that they say."""
-    return [(f"{number}{letter}", name) for number, text in lessons() for letter, name in ASKED.findall(text)]
+    return [(f"{int(file[:2])}{letter}", name) for file, text in pages() for letter, name in ASKED.findall(text)]
 
 
 def solved():
     """The solution of each exercise, as the answers name it."""
-    return {f"{number}{letter}": file for number, text in lessons("docs/lessons/answers") for letter, file in SOLVED.findall(text)}
+    return {f"{int(page[:2])}{letter}": file for page, text in pages("docs/lessons/answers") for letter, file in SOLVED.findall(text)}
 
 
 def checked(*words):
@@ -43,8 +43,20 @@ def told(words, status, pattern):
     return None if fits else f"status {ran.returncode}, {ran.stdout + ran.stderr!r}"
 
 
-class Exercises(Cases):
+def listed(file, number, title, level, minutes):
+    """What is wrong with the row of a lesson in their list, or nothing: it has its title, level and minutes, and leads to its answers."""
+    row = f"| [{number}. {title}]({file}) | {level} | {minutes} | "
+    rows = [line for line in text_of("docs/lessons/INDEX.md").splitlines() if line.startswith(row)]
+    return None if len(rows) == 1 and rows[0].endswith(f"| [answers](answers/{file}) |") else f"the list has no row {row}"
+
+
+class Lessons(Cases):
     PROGRAMS = ("rbl",)
+
+    def test_list(self):
+        """Each lesson begins with its number, its title, its level and its minutes, and is listed so."""
+        begin = re.compile(r"# (\d+)\. (.*)\n\nLevel ([123]) of 3, (\d+) minutes")
+        self.each([(file, file, *begin.match(text).groups()) for file, text in pages()], listed)
 
     def test_all_are_there(self):
         """Each exercise of a lesson has its name, its wants and a solution, and no others are there."""
