@@ -12,6 +12,8 @@ from exercises import EXERCISES
 
 ASKED = re.compile(r"^\((\w)\) .* `tools/check_exercise (\w+) FILE`$", re.MULTILINE)
 SOLVED = re.compile(r"^\*\*\((\w)\)\*\* .*?^```(?:diff \S+|schedule) (\S+)$", re.MULTILINE | re.DOTALL)
+# The first exercise is solved too by what solves the second one.
+STRONGER = {("17a", "17b")}
 
 
 def pages(folder="docs/lessons"):
@@ -69,6 +71,13 @@ class Lessons(Cases):
 
     def test_unchanged(self):
         self.each([(name, [name, one.start], 1, rf"(?:{name}: \S[^\n]{{10,}}\n)+") for name, one in EXERCISES.items()], told)
+
+    def test_others(self):
+        """What solves one exercise solves no other one that begins with the same file, unless it is a stronger one."""
+        files = solved()
+        pairs = [(name, other) for name, one in EXERCISES.items() for other, two in EXERCISES.items() if name != other and one.start == two.start]
+        self.each([(f"{other} as {name}", [name, files[other]], 1, rf"(?:{name}: [^\n]+\n)+")
+                   for name, other in pairs if (name, other) not in STRONGER], told)
 
     def test_refused(self):
         """A text that is refused for nothing that is asked is told with its reason."""
