@@ -18,11 +18,11 @@ use Rattle.rb_code.specs.WordMachine.Turn.{Copy, Standing}
 use Rattle.rb_code.specs.WordMachine.WordRun.{variable_words, word_final, word_run}
 use Rattle.rb_prepare.proofs.AcceptedSources.{accepted_code_agrees}
 use Rattle.rb_run.specs.Sources.{OfItsSource}
-use Rattle.rb_back.specs.declared.order.Order.{Order}
-use Rattle.rb_back.specs.declared.order.Order.TheVariants.{Forth, Back, Show}
+use Rattle.rb_script.specs.declared.order.Order.{Order}
+use Rattle.rb_script.specs.declared.order.Order.TheVariants.{Forth, Back, Show}
 use Rattle.rb_back.specs.declared.showing.Stopped.{Stopped}
 use Rattle.rb_back.specs.Laws.{CodeShowsAsMeant}
-use Rattle.rb_back.specs.Shown.{all_shown, final_shown, session_text, shown_text, tree_session_text, tree_shown, word_shown}
+use Rattle.rb_script.specs.Shown.{all_shown, final_shown, session_text, shown_text, tree_session_text, tree_shown, word_shown}
 use Rattle.rb_back.specs.Showing.{Shows}
 
 -- two lists with the same images

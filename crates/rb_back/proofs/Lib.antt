@@ -1,7 +1,4 @@
--- Lemmas of sessions. First their texts: a script that is read line by line, and that it can be followed.
-pub mod ScriptLines
-pub mod Following
--- Pictures, and how changes lead from one to another and back.
+-- Lemmas of sessions. Pictures, and how changes lead from one to another and back.
 pub mod Mixed
 pub mod Pictures
 pub mod Noted

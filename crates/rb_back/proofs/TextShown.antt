@@ -30,12 +30,12 @@ use Rattle.rb_run.specs.Running.{NamesFit}
 use Rattle.rb_run.proofs.EndingFits.{ending_fits}
 use Rattle.rb_run.proofs.OwnWords.{runs_own}
 use Rattle.rb_back.specs.Course.{Course, shown_states, shown_variables}
-use Rattle.rb_back.specs.declared.order.Order.{Order}
-use Rattle.rb_back.specs.declared.order.Order.TheVariants.{Forth, Back, Show}
+use Rattle.rb_script.specs.declared.order.Order.{Order}
+use Rattle.rb_script.specs.declared.order.Order.TheVariants.{Forth, Back, Show}
 use Rattle.rb_back.specs.declared.showing.Stopped.{Stopped}
 use Rattle.rb_back.specs.declared.showing.Stopped.TheVariants.{WriteFault, Memory}
-use Rattle.rb_back.specs.Script.{CanFollow}
-use Rattle.rb_back.specs.Shown.{all_shown, final_shown, position_line, process_shown, shown_text, word_shown, words_shown}
+use Rattle.rb_script.specs.Script.{CanFollow}
+use Rattle.rb_script.specs.Shown.{all_shown, final_shown, position_line, process_shown, shown_text, word_shown, words_shown}
 use Rattle.rb_back.specs.Showing.{HasMoved, Shows, ShowsOne}
 use Rattle.rb_back.proofs.Noted.{there_is}
 use Rattle.rb_back.proofs.Sizes.{run_processes, run_states}

@@ -7,9 +7,9 @@ use Rattle.rb_code.specs.Instructions.Plain.{Code}
 use Rattle.rb_code.specs.WordMachine.WordRun.{word_run}
 use Rattle.rb_recovery.specs.Reading.{states_of, variables_of}
 use Rattle.rb_prepare.specs.Laws.{OfEveryCode}
-use Rattle.rb_back.specs.declared.order.Order.{Order}
+use Rattle.rb_script.specs.declared.order.Order.{Order}
 use Rattle.rb_back.specs.Course.{Course, MayStep, opening_course, shown_states, shown_variables, stepped, went_back}
-use Rattle.rb_back.specs.Shown.{session_text, tree_session_text}
+use Rattle.rb_script.specs.Shown.{session_text, tree_session_text}
 
 -- What a session comes to by steps and backs, in any order, over the turns of a list: a step is of the process whose turn is next there.
 pub data Reaches (c : Code) (groups : List Membership) (turns : List ℕ) : Course → Type 0 where

@@ -1,12 +1,9 @@
-pub mod Script
-pub mod Walk
 pub mod Picture
 pub mod Stores
 pub mod Noting
 pub mod Others
 pub mod Course
 pub mod Journal
-pub mod Shown
 pub mod Showing
 pub mod Laws
 pub mod Rows

@@ -8,9 +8,9 @@ use Rattle.rb_meaning.specs.Rows.Blocks.{one_rejection_tree}
 use Rattle.rb_meaning.specs.Rows.Build.{first, rounds, second, times}
 use Rattle.rb_meaning.specs.Rows.Conversations.{broken_tree, conversation_tree}
 use Rattle.rb_meaning.specs.Rows.Messages.{maybe_tree}
-use Rattle.rb_back.specs.declared.order.Order.{Order}
-use Rattle.rb_back.specs.Script.{script_of}
-use Rattle.rb_back.specs.Shown.{tree_session_text}
+use Rattle.rb_script.specs.declared.order.Order.{Order}
+use Rattle.rb_script.specs.Script.{script_of}
+use Rattle.rb_script.specs.Shown.{tree_session_text}
 
 -- what is written over the turns of a program, where its orders are followed
 abbrev pub told : Tree → List ℕ → Result (List Order) TextFault → Result (List ℕ) TextFault

@@ -4,17 +4,13 @@
 pub mod laws;
 mod loading;
 mod noting;
-pub mod order;
 pub mod rows;
-pub mod script;
 pub mod session;
 pub mod showing;
 pub mod shown;
 mod stores;
 mod view;
 
-pub use order::Order;
-pub use script::Script;
 pub use session::Session;
 pub use showing::{Stopped, show_all};
 pub use shown::write_shown;

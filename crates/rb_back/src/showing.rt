@@ -5,17 +5,16 @@ ghost use Rattle.rb_run.specs.Running.{NamesFit};
 ghost use Rattle.rb_run.specs.Sources.{OfItsSource};
 ghost use Rattle.rb_trace.specs.Naming.{naming};
 ghost use Rattle.rb_back.specs.Course.{MayStep, opening_course, stepped};
-ghost use Rattle.rb_back.specs.Script.{CanFollow};
-ghost use Rattle.rb_back.specs.Shown.{session_text, tree_session_text, word_shown};
+ghost use Rattle.rb_script.specs.Script.{CanFollow};
+ghost use Rattle.rb_script.specs.Shown.{session_text, tree_session_text, word_shown};
 ghost use Rattle.rb_back.specs.Showing.{GoesOver, HasMoved, Shows, ShowsOne};
 
-use crate::order::Order;
-use crate::script::Script;
 use crate::session::Session;
 use crate::shown::write_shown;
 use rb_base::{Memory, Names, Steps};
 use rb_outside::{Failed, Sink};
 use rb_sched::Schedule;
+use rb_script::{Order, Script};
 use std::sync::ledger::Ledger;
 
 /// Why a script was not followed to its end.

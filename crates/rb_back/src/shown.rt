@@ -4,7 +4,7 @@ ghost use Rattle.std.specs.Prelude.{◌≡◌, ◌+◌, ◌<◌, ◌≤◌, leng
 ghost use Rattle.rb_outside.specs.Puts.{Puts};
 ghost use Rattle.rb_run.specs.Running.{NamesFit};
 ghost use Rattle.rb_trace.specs.Naming.{naming};
-ghost use Rattle.rb_back.specs.Shown.{position_line, word_shown, words_shown};
+ghost use Rattle.rb_script.specs.Shown.{position_line, word_shown, words_shown};
 
 use crate::session::Session;
 use itoa::Buffer;

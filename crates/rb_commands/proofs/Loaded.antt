@@ -32,8 +32,8 @@ use Rattle.rb_recovery.specs.Worlds.{counts_of}
 use Rattle.rb_run.specs.Counting.{told_counts}
 use Rattle.rb_run.proofs.AsMeant.{text_as_meant}
 use Rattle.rb_run.proofs.Survived.{erased_over}
-use Rattle.rb_back.specs.declared.order.Order.{Order}
-use Rattle.rb_back.specs.Shown.{session_text, tree_session_text}
+use Rattle.rb_script.specs.declared.order.Order.{Order}
+use Rattle.rb_script.specs.Shown.{session_text, tree_session_text}
 use Rattle.rb_back.proofs.AsMeant.{session_agrees}
 use Rattle.rb_image.specs.Image.{image_of}
 use Rattle.rb_stuck.specs.Programs.{tree_standing_text, word_standing_text}

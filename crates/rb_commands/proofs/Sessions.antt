@@ -9,9 +9,9 @@ use Rattle.rb_conv.specs.Conversations.{memberships, opening}
 use Rattle.rb_sched.specs.Schedule.{schedule_of}
 use Rattle.rb_prepare.specs.Prepared.{IsPrepared}
 use Rattle.rb_prepare.specs.declared.preparing.Prepared.{Prepared}
-use Rattle.rb_back.specs.declared.order.Order.{Order}
-use Rattle.rb_back.specs.Script.{script_of}
-use Rattle.rb_back.specs.Shown.{session_text}
+use Rattle.rb_script.specs.declared.order.Order.{Order}
+use Rattle.rb_script.specs.Script.{script_of}
+use Rattle.rb_script.specs.Shown.{session_text}
 use Rattle.rb_hall.specs.declared.command.Stop.{Stop}
 use Rattle.rb_hall.specs.declared.command.Stop.TheVariants as stop
 use Rattle.rb_hall.specs.declared.command.Unwritten.{Unwritten}

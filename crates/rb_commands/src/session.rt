@@ -3,8 +3,8 @@
 ghost use Rattle.std.specs.Prelude.{◌≡◌, ◌≤◌, ◌<◌, ℕ, List, [], ◌∷◌, length, vec_len, MatchOption, MatchResult, slice_get, Some, Err};
 ghost use Rattle.rb_base.specs.Naming.{process_names};
 ghost use Rattle.rb_base.specs.declared.limits.TheConstants.{MOST_TURNS};
-ghost use Rattle.rb_back.specs.Script.{CanFollow};
-ghost use Rattle.rb_back.specs.Shown.{session_text};
+ghost use Rattle.rb_script.specs.Script.{CanFollow};
+ghost use Rattle.rb_script.specs.Shown.{session_text};
 ghost use Rattle.rb_code.specs.Instructions.Plain.{code as plain};
 ghost use Rattle.rb_conv.specs.Conversations.{memberships, opening};
 ghost use Rattle.rb_hall.specs.Ends.{HoldsOn, IfRefused, WriteEnds, wanted_of};
@@ -18,12 +18,13 @@ ghost use Rattle.rb_commands.specs.Written.{EndsSession, PutsFrontOrMemory, unwr
 
 use crate::source::prepare_source;
 use crate::why::Why;
-use rb_back::{Script, Session as Steppable, Stopped, show_all};
+use rb_back::{Session as Steppable, Stopped, show_all};
 use rb_base::{MOST_BYTES, Names, Steps, TextFault};
 use rb_hall::{Command, Fault, Stop, Unwritten, Wanted, Written};
 use rb_outside::{Memory, Sink};
 use rb_prepare::Prepared;
 use rb_sched::Schedule;
+use rb_script::Script;
 use std::alloc::Global;
 use std::marker::Brand;
 use std::sync::ledger::{Blank, Ledger};

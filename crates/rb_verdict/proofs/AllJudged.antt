@@ -34,9 +34,9 @@ use Rattle.rb_domino.specs.Written.{outcome_text}
 use Rattle.rb_stuck.specs.Programs.{tree_standing_text}
 use Rattle.rb_picture.specs.Meant.{tree_trace_text}
 use Rattle.rb_page.specs.Page.{page_text}
-use Rattle.rb_back.specs.declared.order.Order.{Order}
-use Rattle.rb_back.specs.Script.{script_of}
-use Rattle.rb_back.specs.Shown.{tree_session_text}
+use Rattle.rb_script.specs.declared.order.Order.{Order}
+use Rattle.rb_script.specs.Script.{script_of}
+use Rattle.rb_script.specs.Shown.{tree_session_text}
 use Rattle.rb_hall.specs.declared.fault.Fault.{Fault}
 use Rattle.rb_hall.specs.declared.fault.Fault.TheVariants as of
 use Rattle.rb_hall.specs.Judgement.{Judgement, Judging, ReadsOn, RefusedWith, Writes, Wants, as_judged, too_long, none_yet, EndsBy, refused_here, written_here, later}

@@ -15,9 +15,9 @@ use Rattle.rb_record.specs.Record.{record_of}
 use Rattle.rb_domino.specs.History.{Story, history_of}
 use Rattle.rb_domino.specs.Recovery.{outcome_of}
 use Rattle.rb_domino.specs.Written.{outcome_text}
-use Rattle.rb_back.specs.declared.order.Order.{Order}
-use Rattle.rb_back.specs.Script.{script_of}
-use Rattle.rb_back.specs.Shown.{tree_session_text}
+use Rattle.rb_script.specs.declared.order.Order.{Order}
+use Rattle.rb_script.specs.Script.{script_of}
+use Rattle.rb_script.specs.Shown.{tree_session_text}
 use Rattle.rb_hall.specs.declared.fault.Fault.{Fault}
 use Rattle.rb_hall.specs.declared.fault.Fault.TheVariants as of
 use Rattle.rb_verdict.specs.Programs.{MayRun, Program}

@@ -4,10 +4,10 @@ use Rattle.rb_outside.proofs.Puts.{puts_same}
 use Rattle.rb_run.specs.Running.{NamesFit}
 use Rattle.rb_trace.proofs.Written.{written_all, written_more, written_nothing}
 use Rattle.rb_code.specs.Instructions.Plain.{Code}
-use Rattle.rb_back.specs.declared.order.Order.{Order}
+use Rattle.rb_script.specs.declared.order.Order.{Order}
 use Rattle.rb_back.specs.Course.{Course}
-use Rattle.rb_back.specs.Script.{CanFollow}
-use Rattle.rb_back.specs.Shown.{all_shown, session_text, word_shown}
+use Rattle.rb_script.specs.Script.{CanFollow}
+use Rattle.rb_script.specs.Shown.{all_shown, session_text, word_shown}
 use Rattle.rb_back.specs.Showing.{ShowsOne}
 use Rattle.rb_back.proofs.AsMeant.{shown_as_meant}
 use Rattle.rb_back.proofs.TextShown.{as_failed, as_stopped, by_back, by_forth, by_show, same_left, same_shown_text, stopped_as, stopped_at}

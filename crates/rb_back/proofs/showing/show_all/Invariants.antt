@@ -1,7 +1,7 @@
 use Rattle.std.proofs.Common.{◌≡◌, ◌≤◌, length, vec_len}
 use Rattle.rb_trace.proofs.Written.{Written}
-use Rattle.rb_back.specs.Script.{CanFollow}
-use Rattle.rb_back.specs.Shown.{all_shown, session_text, word_shown}
+use Rattle.rb_script.specs.Script.{CanFollow}
+use Rattle.rb_script.specs.Shown.{all_shown, session_text, word_shown}
 use Rattle.rb_back.specs.Showing.{GoesOver}
 use Rattle.rb_back.proofs.showing.show_all.Given as goal
 

@@ -6,7 +6,7 @@ use Rattle.rb_trace.specs.Ended.{process_text, state_of}
 use Rattle.rb_trace.specs.Naming.{process_naming}
 use Rattle.rb_code.specs.WordMachine.WordRun.{word_final, word_run}
 use Rattle.rb_back.specs.Course.{shown_variables}
-use Rattle.rb_back.specs.Shown.{position_line, process_shown}
+use Rattle.rb_script.specs.Shown.{position_line, process_shown}
 use Rattle.rb_back.proofs.TextShown.{few_shown, process_fits, shown_here, state_there}
 use Rattle.rb_back.proofs.shown.write_shown.Goals as goal
 

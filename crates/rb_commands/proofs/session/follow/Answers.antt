@@ -3,7 +3,7 @@ use Rattle.rb_code.specs.Instructions.Plain.{code}
 use Rattle.rb_conv.specs.Conversations.{memberships, opening}
 use Rattle.rb_run.specs.Running.{NamesFit}
 use Rattle.rb_back.specs.Course.{Course, opening_course}
-use Rattle.rb_back.specs.Shown.{session_text}
+use Rattle.rb_script.specs.Shown.{session_text}
 use Rattle.rb_commands.proofs.Following.{following_puts}
 use Rattle.rb_commands.proofs.Loaded.{code_names_fit, is_sound}
 use Rattle.rb_commands.proofs.session.follow.Goals as goal

@@ -3,8 +3,8 @@ use Rattle.rb_base.specs.Naming.{process_names}
 use Rattle.rb_code.specs.Instructions.Plain.{code}
 use Rattle.rb_conv.specs.Conversations.{memberships, opening}
 use Rattle.rb_sched.specs.Schedule.{Plan}
-use Rattle.rb_back.specs.Script.{CanFollow, script_of}
-use Rattle.rb_back.specs.Shown.{session_text}
+use Rattle.rb_script.specs.Script.{CanFollow, script_of}
+use Rattle.rb_script.specs.Shown.{session_text}
 use Rattle.rb_verdict.specs.Judging.{SessionGoesOn}
 use Rattle.rb_commands.specs.Explained.{NamesOfSource}
 use Rattle.rb_commands.specs.Written.{KnowsNames, PutsFrontOrMemory}

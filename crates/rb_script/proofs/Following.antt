@@ -13,11 +13,11 @@ use Rattle.rb_base.specs.Bytes.{is_name}
 use Rattle.rb_base.specs.Naming.{first_named, process_names}
 use Rattle.rb_base.proofs.Named.{length_process_names}
 use Rattle.rb_sched.specs.Schedule.{lines_of, words_of}
-use Rattle.rb_back.specs.declared.order.Order.{Order}
-use Rattle.rb_back.specs.declared.order.Order.TheVariants.{Forth, Back, Show}
-use Rattle.rb_back.specs.Script.{CanFollow, asks, counted, followed, known, leads, line_read, order_of_words, orders_of, position_after, process_named, script_of}
-use Rattle.rb_back.specs.Walk.{orders_in}
-use Rattle.rb_back.proofs.ScriptLines.{splits}
+use Rattle.rb_script.specs.declared.order.Order.{Order}
+use Rattle.rb_script.specs.declared.order.Order.TheVariants.{Forth, Back, Show}
+use Rattle.rb_script.specs.Script.{CanFollow, asks, counted, followed, known, leads, line_read, order_of_words, orders_of, position_after, process_named, script_of}
+use Rattle.rb_script.specs.Walk.{orders_in}
+use Rattle.rb_script.proofs.ScriptLines.{splits}
 
 -- an order names one of so many processes, if it names one
 abbrev Names-one : ℕ → Order → Type 0

@@ -3,8 +3,8 @@ use Rattle.std.specs.Prelude.{ℕ, List, [], Result, Ok, Err}
 use Rattle.std.specs.Result.{IsOk}
 use Rattle.rb_base.specs.declared.fault.TextFault.{TextFault}
 use Rattle.rb_sched.specs.Schedule.{lines_of}
-use Rattle.rb_back.specs.declared.order.Order.{Order}
-use Rattle.rb_back.specs.Script.{orders_of}
+use Rattle.rb_script.specs.declared.order.Order.{Order}
+use Rattle.rb_script.specs.Script.{orders_of}
 
 -- the orders of a text that has no fault
 abbrev pub orders_in : Result (List Order) TextFault → List Order

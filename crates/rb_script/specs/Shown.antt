@@ -9,8 +9,8 @@ use Rattle.rb_trace.specs.Ended.{process_text, state_of, words_printed}
 use Rattle.rb_meaning.specs.Meaning.{final_of, naming_of, run_of}
 use Rattle.rb_code.specs.Instructions.Plain.{Code}
 use Rattle.rb_code.specs.WordMachine.WordRun.{word_final, word_run}
-use Rattle.rb_back.specs.declared.order.Order.{Order}
-use Rattle.rb_back.specs.declared.order.Order.TheVariants.{Forth, Back, Show}
+use Rattle.rb_script.specs.declared.order.Order.{Order}
+use Rattle.rb_script.specs.declared.order.Order.TheVariants.{Forth, Back, Show}
 
 -- the text of a process, which stands so, with these words
 abbrev pub process_shown : Option ProcessNaming → Option State → List ℤ → List ℕ

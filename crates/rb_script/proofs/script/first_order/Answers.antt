@@ -1,8 +1,8 @@
 -- A line more is walked.
 use Rattle.std.proofs.Common.{sym, ◌∙◌}
 use Rattle.rb_base.specs.Naming.{process_names}
-use Rattle.rb_back.proofs.ScriptLines.{still_faultless, walked_off, walked_on}
-use Rattle.rb_back.proofs.script.first_order.Goals as goal
+use Rattle.rb_script.proofs.ScriptLines.{still_faultless, walked_off, walked_on}
+use Rattle.rb_script.proofs.script.first_order.Goals as goal
 
 pub returns-then-is_some-clause-order : goal.returns-then-is_some-clause-order
 returns-then-is_some-clause-order c =

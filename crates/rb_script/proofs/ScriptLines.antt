@@ -5,9 +5,9 @@ use Rattle.std.specs.Result.{IsOk}
 use Rattle.rb_base.specs.declared.fault.TextFault.{TextFault}
 use Rattle.rb_base.specs.declared.fault.FaultName.{FaultName}
 use Rattle.rb_sched.specs.Schedule.{lines_of}
-use Rattle.rb_back.specs.declared.order.Order.{Order}
-use Rattle.rb_back.specs.Script.{TakesOrder, after_line, in_front, line_read, orders_of, script_of}
-use Rattle.rb_back.specs.Walk.{IsFaultless, orders_in, orders_left}
+use Rattle.rb_script.specs.declared.order.Order.{Order}
+use Rattle.rb_script.specs.Script.{TakesOrder, after_line, in_front, line_read, orders_of, script_of}
+use Rattle.rb_script.specs.Walk.{IsFaultless, orders_in, orders_left}
 
 -- the orders of some lines, in front of which a line has one or none
 pub record Parts (order : Option Order) (others : Result (List Order) TextFault) (orders : List Order) : Type 0 where

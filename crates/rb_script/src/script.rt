@@ -3,8 +3,8 @@
 ghost use Rattle.std.specs.Prelude.{◌≡◌, ◌≤◌, length, vec_len, Ok, Err, IfOk, MatchResult};
 ghost use Rattle.std.specs.Result.{IsOk};
 ghost use Rattle.rb_base.specs.Naming.{process_names};
-ghost use Rattle.rb_back.specs.Script.{CanFollow, TakesOrder, script_of};
-ghost use Rattle.rb_back.specs.Walk.{IsFaultless, orders_left};
+ghost use Rattle.rb_script.specs.Script.{CanFollow, TakesOrder, script_of};
+ghost use Rattle.rb_script.specs.Walk.{IsFaultless, orders_left};
 
 use crate::order::{Order, read_line};
 use rb_base::{MOST_BYTES, Names, TextFault};
@@ -23,8 +23,8 @@ pub struct Script<'a> {
 impl<'a> Model for Script<'a> {
     ghost use Rattle.std.specs.Prelude.{List};
     ghost use Rattle.rb_base.specs.Naming.{process_names};
-    ghost use Rattle.rb_back.specs.Walk.{IsFaultless, orders_left};
-    ghost use Rattle.rb_back.specs.declared.order.Order.{Order as Asked};
+    ghost use Rattle.rb_script.specs.Walk.{IsFaultless, orders_left};
+    ghost use Rattle.rb_script.specs.declared.order.Order.{Order as Asked};
 
     ghost Value = { List Asked };
 

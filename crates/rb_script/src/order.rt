@@ -3,7 +3,7 @@
 ghost use Rattle.std.specs.Prelude.{◌≡◌, ◌≤◌, ◌^◌, ◌<◌, MatchResult};
 ghost use Rattle.rb_base.specs.Bytes.{digits_value};
 ghost use Rattle.rb_base.specs.Naming.{process_names};
-ghost use Rattle.rb_back.specs.Script.{counted, line_read, order_by, order_of_words, position_after, process_named};
+ghost use Rattle.rb_script.specs.Script.{counted, line_read, order_by, order_of_words, position_after, process_named};
 ghost use Rattle.rb_sched.specs.Schedule.{words_of};
 
 use rb_base::bytes::is_name;

@@ -8,9 +8,9 @@ use Rattle.rb_base.specs.declared.fault.FaultName.TheVariants.{B1, B2, B3}
 use Rattle.rb_base.specs.Bytes.{is_name, is_number, digits_value}
 use Rattle.rb_base.specs.Naming.{first_named}
 use Rattle.rb_sched.specs.Schedule.{lines_of, words_of}
-use Rattle.rb_back.specs.declared.order.Order.{Order}
-use Rattle.rb_back.specs.declared.order.Order.TheVariants.{Forth, Back, Show}
-use Rattle.rb_back.specs.declared.order.TheConstants.{MOST_STEPS}
+use Rattle.rb_script.specs.declared.order.Order.{Order}
+use Rattle.rb_script.specs.declared.order.Order.TheVariants.{Forth, Back, Show}
+use Rattle.rb_script.specs.declared.order.TheConstants.{MOST_STEPS}
 
 -- a number of turns that a line may ask for
 abbrev pub is_count : ℕ → Bool
