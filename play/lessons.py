@@ -1,5 +1,5 @@
 """The programs that the playground lists: those of examples/ and examples/classics, each with its schedule, and with the title and the question
-of the lesson that it belongs to."""
+of the lesson that it belongs to: a section of the walk, or a page of docs/lessons."""
 import glob
 import os
 import re
@@ -30,10 +30,16 @@ def sections(page):
     return [(number, title, body) for number, title, body in zip(*[iter(parts)] * 3) if number]
 
 
-def told_in(page, named, asked):
-    """Of each program that a lesson of a page names: the title of the lesson, and what it asks."""
+def told_in(found, shown, asked):
+    """Of each program that one of the lessons shows: the title of the lesson, and what it asks."""
     return {name: (f"{number}. {title}", plain(re.search(asked, body, re.MULTILINE)[1]))
-            for number, title, body in sections(page) for name in re.findall(named, body)}
+            for number, title, body in found for name in re.findall(shown, body)}
+
+
+def pages():
+    """The lessons that have a page of their own."""
+    paths = sorted(glob.glob(os.path.join(ROOT, "docs/lessons/[0-9]*.md")))
+    return [re.fullmatch(r"# (\d+)\. (.*?)\n(.*)", text_of(path), re.DOTALL).groups() for path in paths]
 
 
 def told_of_itself(name):
@@ -57,8 +63,8 @@ def entries(folder, name, group, title, question):
 
 def lessons():
     """All that is listed, in the order of the list."""
-    walk = told_in("docs/TUTORIAL.md", r"```rbl examples/(\w+)\.rbl", r"\A\s*(\S.*)$")
-    classics = told_in("docs/CLASSICS.md", r"examples/classics/(\w+)\.rbl", r"^\*\*Question\.\*\* (.*)$")
+    walk = told_in(sections("docs/TUTORIAL.md"), r"```rbl examples/(\w+)\.rbl", r"\A\s*(\S.*)$")
+    classics = told_in(pages(), r"```rbl examples/classics/(\w+)\.rbl", r"^\*\*Question\.\*\* (.*)$")
     found = []
     for folder, group, told in (("examples", WALK, walk), ("examples/classics", CLASSICS, classics)):
         for name in sorted(told, key=lambda name: (int(told[name][0].split(".")[0]), list(told).index(name))):

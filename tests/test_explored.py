@@ -1,11 +1,12 @@
 """All schedules: what `rblview explore` counts in the examples, and that each schedule it writes leads to the outcome it is written for.
 
-The outcomes are held against what `rbl run` writes of the schedules.
+The outcomes are held against what `rbl run` writes of the schedules; the counts of the lesson on all schedules against its table and its blocks.
 """
 import os
 import re
 
-from .shared import ROOT, Cases, answer, answer_over, read
+from .checking.program import line_of
+from .shared import ROOT, Cases, answer, answer_over, read, text_of
 
 # Of each source how many worlds it has, and after how many turns its outcomes come, with their words.
 COUNTS = {
@@ -18,6 +19,11 @@ COUNTS = {
     "examples/classics/retry.rbl": (131, ["ended after 13", "ended after 21"]),
     "examples/classics/waiting.rbl": (4, ["stuck after 2"]),
 }
+LESSON = "docs/lessons/13-all-schedules.md"
+ROW = re.compile(r"^\| `([\w/.]+)` \| \[[^|]*\| ([\d,]+) \| (\d+) \| ([^|]*) \|$", re.MULTILINE)
+SHOWN = re.compile(r"^```sh\n\./rblview (explore [\w/.]+)\n```\n+```\n(.*?)^```", re.MULTILINE | re.DOTALL)
+# How many outcomes a row lists one by one.
+LISTED = 9
 OUTCOME = re.compile(r"^outcome (\d+) (\w+ after (\d+))\n(.*?)(?=^outcome |\Z)", re.MULTILINE | re.DOTALL)
 
 
@@ -34,6 +40,27 @@ def miscounted(source, states, told):
     if not re.fullmatch(f"states {states} turns \\d+ complete", first) or second != "ends always":
         return f"{first}, {second}"
     return None if [one[1] for one in outcomes] == told else f"{[one[1] for one in outcomes]}"
+
+
+def cell(outcomes):
+    """What the table of the lesson says of outcomes: the turns to each, or of many the fewest, the most and how many are stuck."""
+    ends = [one[1].split(" after ") for one in outcomes]
+    if len(ends) > LISTED:
+        return f"{ends[0][1]} to {ends[-1][1]}; {sum(word == 'stuck' for word, _ in ends)} of them stuck"
+    return ", ".join(length + (" (stuck)" if word == "stuck" else "") for word, length in ends)
+
+
+def wrong_row(source, states, many, told):
+    """What is wrong with a row of the table of the lesson, or nothing."""
+    written, outcomes = explored(source)
+    first = re.match(r"states (\d+) turns \d+ complete\nends always\n", written)
+    real = (f"{int(first[1]):,}", str(len(outcomes)), cell(outcomes)) if first else written[:80]
+    return None if real == (states, many, told) else f"{real}"
+
+
+def wrong_block(words, text):
+    """What is wrong with a block that shows what `rblview` writes, or nothing."""
+    return None if answer(words.split()).out.decode() == text else f"{words} writes something else"
 
 
 def rests(text):
@@ -60,6 +87,13 @@ def led_elsewhere(source, number, length, text):
 class Explored(Cases):
     def test_counts(self):
         self.each([(source, source, *told) for source, told in COUNTS.items()], miscounted)
+
+    def test_table(self):
+        self.each([(row[1], *row.groups()) for row in ROW.finditer(text_of(LESSON))], wrong_row)
+
+    def test_shown(self):
+        text = text_of(LESSON)
+        self.each([(f"{LESSON}:{line_of(text, block.start())}", *block.groups()) for block in SHOWN.finditer(text)], wrong_block)
 
     def test_schedules(self):
         self.each([(f"{source} {number}", source, number, length, text) for source in COUNTS for number, _, length, text in explored(source)[1]],

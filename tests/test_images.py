@@ -41,7 +41,7 @@ def fault(image, due, schedule=""):
 @functools.cache
 def sources():
     """Our sources."""
-    places = ("examples/*.rbl", "examples/classics/*.rbl", "examples/classics/solutions/*.rbl", "bench/*.rbl")
+    places = ("examples/*.rbl", "examples/classics/*.rbl", "examples/classics/solutions/*.rbl", "examples/solutions/*.rbl", "bench/*.rbl")
     found = [sorted(glob.glob(os.path.join(ROOT, place))) for place in places]
     assert all(found), "a folder of sources is empty"
     return [source for some in found for source in some]

@@ -12,11 +12,11 @@ from .checking import faults_table, links
 from .checking.program import PAGES, line_of
 from .shared import ROOT, Cases, text_of
 
-# The most words of a page, of those that are not named here, and of all together. CLASSICS.md has lessons, which are not counted among these.
+# The most words of a page, of those that are not named here, and of all together but for lessons and the pages of crates.
 MOST_WORDS = {"README.md": 1_100, "docs/LANGUAGE.md": 12_000, "docs/MACHINE.md": 6_000, "docs/PROOFS.md": 5_000}
 MOST_OF_OTHERS = 4_000
 MOST_OF_ALL = 45_000
-MOST_OF_A_CRATE = 1_600
+MOST_IN = {"crates/": 1_600, "docs/lessons/": 1_200}
 # The page whose example is a change that was made elsewhere: what that names is not here.
 NAMES_A_CHANGE = "docs/CHANGING.md"
 # Where the oldest node is told that will do, and how.
@@ -66,7 +66,8 @@ def words_of(page):
 def length(page):
     """What is wrong with the length of a page."""
     words = words_of(page)
-    most = MOST_OF_A_CRATE if page.startswith("crates/") else MOST_WORDS.get(page, MOST_OF_OTHERS)
+    of_its_kind = [most for folder, most in MOST_IN.items() if page.startswith(folder)]
+    most = MOST_WORDS.get(page, *of_its_kind or [MOST_OF_OTHERS])
     return f"it has {words} words, and may have {most}" if words > most else None
 
 
@@ -104,7 +105,7 @@ class Pages(Cases):
         self.each([(page, page) for page in [*PAGES, *pages_of_crates()]], length)
 
     def test_length_of_all(self):
-        words = sum(words_of(page) for page in PAGES if page != "docs/CLASSICS.md")
+        words = sum(words_of(page) for page in PAGES if not page.startswith(tuple(MOST_IN)))
         self.assertLessEqual(words, MOST_OF_ALL, "words of all pages together")
 
     def test_tables_of_faults(self):

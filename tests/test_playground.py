@@ -6,6 +6,7 @@ import subprocess
 import sys
 import unittest
 
+from .checking.program import PAGES
 from .in_node import CHROMIUM, FIREFOX, HAS_NODE, Told
 from .shared import ROOT, read, text_of
 
@@ -36,8 +37,7 @@ class Playground(Told):
     def test_named(self):
         """Each example that a page of docs/ opens in the playground is listed."""
         names = {one["name"] for one in listed().values()}
-        pages = ["README.md"] + sorted(f"docs/{name}" for name in os.listdir(os.path.join(ROOT, "docs")) if name.endswith(".md"))
-        links = [(page, name) for page in pages for name in re.findall(r"play/rbl\.html#example=([\w.]+)", text_of(page))]
+        links = [(page, name) for page in PAGES for name in re.findall(r"play/rbl\.html#example=([\w.]+)", text_of(page))]
         self.each([(f"{name} in {page}", name) for page, name in links], lambda name: None if name in names else "it is not listed")
 
     @unittest.skipUnless(HAS_PAGE, "no play/rbl.html here")

@@ -1,5 +1,6 @@
 #!/usr/bin/env node
-/* Makes the pictures of docs/pictures anew, or tells whether they are what it would make: of the steps of the walk, and of the classics.
+/* Makes the pictures of docs/pictures anew, or tells whether they are what it would make: of the steps of the walk, of the classics, and
+   of a run that the lesson on all schedules shows.
 
      node view/pictures.js [--check]
 
@@ -10,16 +11,19 @@ const { picture } = require("./svg.js"), cases = require("./cases.js");
 
 const ROOT = path.dirname(__dirname), PICTURES = path.join(ROOT, "docs/pictures");
 const RBLVIEW = process.env.RBLVIEW || path.join(ROOT, "rblview");
-const STEPS = [1, 2, 3, 4, 5, 6];
+const STEPS = [1, 2, 3, 4, 5, 6, 7];
+// The files of a picture whose source and schedule do not have its name.
+const OTHERS = { step4_failed: ["step4.rbl", "solutions/step4_failed.schedule"] };
 
 // Each picture stands under the name of its source, those of the classics in a folder of their own.
 function pictured() {
   const classics = fs.readdirSync(path.join(ROOT, "examples/classics")).filter(name => name.endsWith(".rbl"));
-  return [...STEPS.map(step => `step${step}`), ...classics.map(name => `classics/${name.slice(0, -".rbl".length)}`)];
+  return [...STEPS.map(step => `step${step}`), ...Object.keys(OTHERS), ...classics.map(name => `classics/${name.slice(0, -".rbl".length)}`)];
 }
 
 function pictureOfExample(name) {
-  const [source, schedule] = [".rbl", ".schedule"].map(ending => path.join(ROOT, "examples", name + ending));
+  const files = OTHERS[name] || [".rbl", ".schedule"].map(ending => name + ending);
+  const [source, schedule] = files.map(file => path.join(ROOT, "examples", file));
   const { status, stdout, stderr } = child.spawnSync(RBLVIEW, ["trace", source, schedule], { maxBuffer: 1 << 30, encoding: "latin1" });
   if (status !== 0) throw new Error(`${RBLVIEW} trace ends with ${status}: ${stderr}`);
   return picture({ trace: stdout, source: fs.readFileSync(source, "latin1") });

@@ -3,7 +3,8 @@
 A block `rbl` is a source and a block `schedule` behind it its schedule; a block `given` is a record that somebody wrote, and `history` a
 history. Of these `output` is what `run` writes, `record` what `survive` does, `plain` what `plain` does of the last record, `standing` what
 `stuck` does, `refused` what `check` does, `code` what `code` does, and `left` what `domino` does; `trial` is what `trial` writes of the number
-in its first line. A block `session` is a session, and `shown` is what `session` writes of it. A name of a file behind the kind says that the file holds the block's text.
+in its first line. A block `session` is a session, and `shown` is what `session` writes of it. A name of a file behind the kind says that the file
+holds the block's text; a block `diff` names two files, and shows what changes from the first to the second.
 
 A block `sh` that is one command line of `./rbl` is run at the top of the repository, and the next block is all that it writes. In other
 such blocks a line's comment begins with `accepted` or `refused ..` where it tells a verdict; each line is run.
@@ -11,6 +12,7 @@ such blocks a line's comment begins with `accepted` or `refused ..` where it tel
 import re
 
 from ..shared import ROOT, text_of
+from .changes import changes
 from .program import Check, answer, answer_of, line_of, wanted
 
 FENCE = re.compile(r"^```(\w*) ?([^\n]*)\n(.*?)^```", re.MULTILINE | re.DOTALL)
@@ -38,7 +40,9 @@ def blocks(page):
         where = f"{page}:{line_of(text, block.start())}"
         if file and kind in {*GIVES, *WRITES}:
             yield Check(where, None if text_of(file) == body else f"{file} holds another text")
-        if kind not in {"", "sh", "trial", *GIVES, *WRITES}:
+        if kind == "diff":
+            yield Check(where, None if body == changes(*map(text_of, file.split())) else f"{file} differ otherwise")
+        if kind not in {"", "sh", "trial", "diff", *GIVES, *WRITES}:
             yield Check(where, f"no block is of the kind {kind}")
         if kind == "rbl":
             texts = {}

@@ -6,7 +6,8 @@ from collections import namedtuple
 from .. import shared
 from ..shared import ROOT, Answer, folder_of
 
-PAGES = ["README.md", *sorted(f"docs/{name}" for name in os.listdir(os.path.join(ROOT, "docs")) if name.endswith(".md"))]
+FOLDERS = ("docs", "docs/lessons", "docs/lessons/answers")
+PAGES = ["README.md", *(f"{folder}/{name}" for folder in FOLDERS for name in sorted(os.listdir(os.path.join(ROOT, folder))) if name.endswith(".md"))]
 
 # Where a check stands, and what is wrong there: None where nothing is.
 Check = namedtuple("Check", "where wrong")
