@@ -110,7 +110,7 @@ class Lessons(Cases):
     def test_refused(self):
         """A text that is refused for nothing that is asked is told with its reason."""
         with folder_of({"slip.rbl": text_of("examples/step1.rbl").replace("price := 7", "prise := 7")}) as folder:
-            self.each([("slip", ["14b", os.path.join(folder, "slip.rbl")], 1, r"14b: refused S1 at 4:3\n14b: .*prise.*")], told)
+            self.each([("slip", ["14b", os.path.join(folder, "slip.rbl")], 1, r"14b: refused S1 at 4:3\n14b: /\S*/slip\.rbl:4:3: S1: .*prise.*")], told)
 
     def test_words(self):
         lists = r"usage: tools/check_exercise EXERCISE FILE\n.*\n1a .*\n17b .*"
