@@ -14,6 +14,22 @@ ASKED = re.compile(r"^\((\w)\) .* `tools/check_exercise (\w+) FILE`$", re.MULTIL
 SOLVED = re.compile(r"^\*\*\((\w)\)\*\* .*?^```(?:diff \S+|schedule) (\S+)$", re.MULTILINE | re.DOTALL)
 # The first exercise is solved too by what solves the second one.
 STRONGER = {("17a", "17b")}
+# Of exercises what is changed in the solution, so that it is none, and what is said then.
+NEAR = [
+    ("1a", "(sum m from 0 to 4 : a[m] = a[k]) = (sum m from 0 to 4 : prior a[m] = a[k])", "1", "your test refuses the first alternate"),
+    ("1b", "within 113", "within 114", "114 is not the least bound: with 113"),
+    ("1b", "within 113", "within 112", "with the bound 112 wanted is that the sorter comes to its end"),
+    ("2b", "price > prior price", "price > 0", "it has not risen"),
+    ("3a", "point q\nsend d p q\ntake d\n", "send d p q\ntake d\npoint q\n", "r keeps everything"),
+    ("4b", "conversation Inner (p, q, r);", "conversation Inner (p, q);", "it is refused for N3, and there is `refused N2 at"),
+    ("5b", "plan = 2 within 22", "plan = 2 within 23", r"are not one number: \[23, 22\]"),
+    ("10a", "size 2", "size 3", "the channel is no larger"),
+    ("11a", "prior doubts = 3", "prior doubts = 2", "there are 2 doubts, and not 3"),
+    ("12b", "tries := 2", "tries := 7", "no variable of the client is 2 at the end"),
+    ("13a", "buyer 21", "buyer 20", "buyer fails"),
+    ("15b", "p 8", "p 9", "the schedule has ten turns"),
+    ("17b", "receive question x; send answer x + 1", "send answer 1; receive question x", "the process q is not that of the lesson"),
+]
 
 
 def pages(folder="docs/lessons"):
@@ -52,6 +68,15 @@ def listed(file, number, title, level, minutes):
     return None if len(rows) == 1 and rows[0].endswith(f"| [answers](answers/{file}) |") else f"the list has no row {row}"
 
 
+def near(name, old, new, said):
+    """What is wrong with what is said of a solution that is changed in one place, or nothing."""
+    text = text_of(solved()[name])
+    if text.count(old) != 1:
+        return f"the solution has not one `{old}`"
+    with folder_of({"near": text.replace(old, new)}) as folder:
+        return told([name, os.path.join(folder, "near")], 1, rf"(?:{name}: [^\n]+\n)*{name}: [^\n]*{said}.*")
+
+
 class Lessons(Cases):
     PROGRAMS = ("rbl",)
 
@@ -72,6 +97,9 @@ class Lessons(Cases):
     def test_unchanged(self):
         self.each([(name, [name, one.start], 1, rf"(?:{name}: \S[^\n]{{10,}}\n)+") for name, one in EXERCISES.items()], told)
 
+    def test_near(self):
+        self.each([(f"{name} {new}", name, old, new, said) for name, old, new, said in NEAR], near)
+
     def test_others(self):
         """What solves one exercise solves no other one that begins with the same file, unless it is a stronger one."""
         files = solved()
@@ -82,7 +110,7 @@ class Lessons(Cases):
     def test_refused(self):
         """A text that is refused for nothing that is asked is told with its reason."""
         with folder_of({"slip.rbl": text_of("examples/step1.rbl").replace("price := 7", "prise := 7")}) as folder:
-            self.each([("slip", ["14b", os.path.join(folder, "slip.rbl")], 1, r"14b: refused S1 at 4:3\n14b: .*prise.*")], told)
+            self.each([("slip", ["14b", os.path.join(folder, "slip.rbl")], 1, r"14b: refused S1 at 4:3\n14b: /\S*/slip\.rbl:4:3: S1: .*prise.*")], told)
 
     def test_words(self):
         lists = r"usage: tools/check_exercise EXERCISE FILE\n.*\n1a .*\n17b .*"
