@@ -16,7 +16,9 @@ from .shared import ROOT, Cases, text_of
 MOST_WORDS = {"README.md": 1_100, "docs/LANGUAGE.md": 12_000, "docs/MACHINE.md": 6_000, "docs/PROOFS.md": 5_000}
 MOST_OF_OTHERS = 4_000
 MOST_OF_ALL = 45_000
-MOST_IN = {"crates/": 1_600, "docs/lessons/": 1_200}
+MOST_IN = {"crates/": 800, "docs/lessons/": 1_200}
+# The paragraph in which the page of each crate tells what may be changed there, and what that costs above.
+TOUCHED = re.compile(r"^\*\*What may be touched\*\*: \w.+\.$", re.MULTILINE)
 # The page whose example is a change that was made elsewhere: what that names is not here.
 NAMES_A_CHANGE = "docs/CHANGING.md"
 # Where the oldest node is told that will do, and how.
@@ -71,6 +73,12 @@ def length(page):
     return f"it has {words} words, and may have {most}" if words > most else None
 
 
+def touched(page):
+    """What is wrong with what the page of a crate tells of changes there."""
+    told = len(TOUCHED.findall(text_of(page)))
+    return None if told == 1 else f"it has {told} paragraphs of what may be touched"
+
+
 def wrong_path(page, path):
     """What is wrong with a path that the page of a crate names: it begins in the crate, or with the name of another one."""
     top = "crates" if path.startswith("rb_") else os.path.dirname(page)
@@ -113,6 +121,9 @@ class Pages(Cases):
 
     def test_crates_have_pages(self):
         self.each([(page, page) for page in wanted_pages()], lambda page: None if is_there(page) else "it is not there")
+
+    def test_crates_tell_what_may_be_touched(self):
+        self.each([(page, page) for page in pages_of_crates()], touched)
 
     def test_crates_are_listed(self):
         listed = text_of("docs/CRATES.md")
