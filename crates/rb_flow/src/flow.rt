@@ -10,7 +10,7 @@ ghost use Rattle.rb_flow.specs.Flow.{flow_at};
 ghost use Rattle.rb_flow.specs.Ways.{IsFlow};
 ghost use Rattle.rb_flow.specs.Ends.{AreEnds};
 ghost use Rattle.rb_flow.specs.Shapes.{IsOfShape};
-ghost use Rattle.rb_code.specs.declared.instr.Instr.TheVariants.{Turn};
+ghost use Rattle.rb_flow.specs.declared.flow.Shape.TheVariants.{Moves, Operates, Pushes, Takes};
 
 use crate::ends::Ends;
 use crate::entering::{enter, start, test};
@@ -67,7 +67,7 @@ fn instr_at(code: &Code, at: u32) -> Option<Instr>
     }
 }
 
-// What an instruction does with operands. Each function below answers Memory for what is not its own.
+// What an instruction does with operands. Each function below is called for what is its own.
 #[derive(Clone, Copy)]
 enum Shape {
     Pushes,
@@ -152,6 +152,7 @@ fn pushing(
     instr: Instr,
     entry: Held,
 ) -> Result<Way, Memory>
+    requires shape { IsOfShape instr Pushes }
     requires held { IsHeld lists.old entry }
     requires at { at < 4294967295 }
     ensures { IfOk result (λ way. IsFlow (plain code.now) lists.old lists.new way
@@ -163,7 +164,7 @@ fn pushing(
         Instr::Prior(v) => prior(code, nested, lists, at, entry, v),
         Instr::Counter(k) => counter(code, nested, lists, at, entry, k),
         Instr::Take(channel) => take(code, nested, lists, at, entry, channel),
-        _ => Err(Memory),
+        _ => unreachable!(),
     }
 }
 
@@ -175,6 +176,7 @@ fn operating(
     instr: Instr,
     entry: Held,
 ) -> Result<Way, Memory>
+    requires shape { IsOfShape instr Operates }
     requires held { IsHeld lists.old entry }
     requires at { at < 4294967295 }
     ensures { IfOk result (λ way. IsFlow (plain code.now) lists.old lists.new way
@@ -198,7 +200,7 @@ fn operating(
         Instr::Bound(n) => bound(code, nested, lists, at, entry, n),
         Instr::LoadAt(v) => load_at(code, nested, lists, at, entry, v),
         Instr::PriorAt(v) => prior_at(code, nested, lists, at, entry, v),
-        _ => Err(Memory),
+        _ => unreachable!(),
     }
 }
 
@@ -212,6 +214,7 @@ fn lacking(
     instr: Instr,
     entry: Held,
 ) -> Result<Way, Memory>
+    requires shape { IsOfShape instr Takes }
     requires none { operands_of lists.now entry.operands ≡ [] }
     ensures leads { IfOk result (λ way. steps_of (plain code.now) lists.now way
         ≡ leads (plain code.now) (memberships (opening nested.now)) instr at (entry_of lists.now entry)) }
@@ -225,7 +228,7 @@ fn lacking(
         Instr::Put(_) => Ok(Way::Broken),
         Instr::Test(_) => Ok(Way::Broken),
         Instr::Range(_, _) => Ok(Way::Broken),
-        _ => Err(Memory),
+        _ => unreachable!(),
     }
 }
 
@@ -239,6 +242,7 @@ fn taking(
     entry: Held,
     x: Top,
 ) -> Result<Way, Memory>
+    requires shape { IsOfShape instr Takes }
     requires ends { AreEnds (plain code.now) ends.now }
     requires held { IsHeld lists.now entry }
     requires top { operands_of lists.now entry.operands ≡ x.top ∷ operands_of lists.now x.below }
@@ -256,7 +260,7 @@ fn taking(
         Instr::Put(channel) => Ok(put_message(code, nested, lists, at, entry, x, channel)),
         Instr::Test(b) => Ok(test(code, nested, lists, at, entry, x, b)),
         Instr::Range(k, b) => range(code, nested, ends, lists, at, entry, x, k, b),
-        _ => Err(Memory),
+        _ => unreachable!(),
     }
 }
 
@@ -269,6 +273,7 @@ fn moving(
     instr: Instr,
     entry: Held,
 ) -> Result<Way, Memory>
+    requires shape { IsOfShape instr Moves }
     requires ends { AreEnds (plain code.now) ends.now }
     requires held { IsHeld lists.now entry }
     requires at { at < 4294967295 }
@@ -292,6 +297,6 @@ fn moving(
         Instr::Fail => Ok(fail(code, nested, lists, at, entry)),
         Instr::Again(k, b) => Ok(again(code, nested, lists, at, entry, k, b)),
         Instr::Start(b) => Ok(start(code, nested, lists, at, entry, b)),
-        _ => Err(Memory),
+        _ => unreachable!(),
     }
 }
