@@ -11,6 +11,7 @@ ghost use Rattle.rb_flow.specs.Ways.{IsFlow};
 ghost use Rattle.rb_flow.specs.Ends.{AreEnds};
 ghost use Rattle.rb_flow.specs.Shapes.{IsOfShape};
 ghost use Rattle.rb_flow.specs.declared.flow.Shape.TheVariants.{Moves, Operates, Pushes, Takes};
+ghost use Rattle.rb_flow.specs.declared.ends.TheConstants.{MOST_INSTRUCTIONS};
 
 use crate::ends::Ends;
 use crate::entering::{enter, start, test};
@@ -43,9 +44,6 @@ pub fn flow(
     ensures { IfOk result (λ way. IsFlow (plain code.now) lists.old lists.new way
         (flow_at (plain code.now) (memberships (opening nested.now)) at (entry_of lists.old entry))) }
 {
-    if at >= 4_294_967_295 {
-        return Err(Memory);
-    }
     match instr_at(code, at) {
         None => Ok(Way::Broken),
         Some(instr) => {
@@ -116,7 +114,7 @@ fn shape_of(instr: Instr) -> Shape
 }
 
 // Where an instruction leads at an address.
-#[tactic(auto, using(crate::proofs::Chosen::quiet_call))]
+#[tactic(auto, using(crate::proofs::Chosen::quiet_call, crate::proofs::Chosen::quiet_flow))]
 fn flow_of(
     code: &Code,
     nested: &Nested,
@@ -128,7 +126,7 @@ fn flow_of(
 ) -> Result<Way, Memory>
     requires ends { AreEnds (plain code.now) ends.now }
     requires held { IsHeld lists.old entry }
-    requires at { at < 4294967295 }
+    requires at { at < MOST_INSTRUCTIONS }
     ensures { IfOk result (λ way. IsFlow (plain code.now) lists.old lists.new way
         (leads (plain code.now) (memberships (opening nested.now)) instr at (entry_of lists.old entry))) }
 {
@@ -136,7 +134,7 @@ fn flow_of(
         Shape::Pushes => pushing(code, nested, lists, at, instr, entry),
         Shape::Operates => operating(code, nested, lists, at, instr, entry),
         Shape::Takes => match lists.operands.top(entry.operands) {
-            None => lacking(code, nested, lists, at, instr, entry),
+            None => Ok(lacking(code, nested, lists, at, instr, entry)),
             Some(x) => taking(code, nested, ends, lists, at, instr, entry, x),
         },
         Shape::Enters(b) => enter(code, nested, lists, at, entry, b),
@@ -154,7 +152,7 @@ fn pushing(
 ) -> Result<Way, Memory>
     requires shape { IsOfShape instr Pushes }
     requires held { IsHeld lists.old entry }
-    requires at { at < 4294967295 }
+    requires at { at < MOST_INSTRUCTIONS }
     ensures { IfOk result (λ way. IsFlow (plain code.now) lists.old lists.new way
         (leads (plain code.now) (memberships (opening nested.now)) instr at (entry_of lists.old entry))) }
 {
@@ -178,7 +176,7 @@ fn operating(
 ) -> Result<Way, Memory>
     requires shape { IsOfShape instr Operates }
     requires held { IsHeld lists.old entry }
-    requires at { at < 4294967295 }
+    requires at { at < MOST_INSTRUCTIONS }
     ensures { IfOk result (λ way. IsFlow (plain code.now) lists.old lists.new way
         (leads (plain code.now) (memberships (opening nested.now)) instr at (entry_of lists.old entry))) }
 {
@@ -206,28 +204,21 @@ fn operating(
 
 // Where an instruction leads that takes operands, where there are none.
 #[tactic(auto, using(crate::proofs::Chosen::when_none))]
-fn lacking(
-    code: &Code,
-    nested: &Nested,
-    lists: &Lists,
-    at: u32,
-    instr: Instr,
-    entry: Held,
-) -> Result<Way, Memory>
+fn lacking(code: &Code, nested: &Nested, lists: &Lists, at: u32, instr: Instr, entry: Held) -> Way
     requires shape { IsOfShape instr Takes }
     requires none { operands_of lists.now entry.operands ≡ [] }
-    ensures leads { IfOk result (λ way. steps_of (plain code.now) lists.now way
-        ≡ leads (plain code.now) (memberships (opening nested.now)) instr at (entry_of lists.now entry)) }
-    ensures held { IfOk result (λ way. AreHeld lists.now way) }
+    ensures leads { steps_of (plain code.now) lists.now result
+        ≡ leads (plain code.now) (memberships (opening nested.now)) instr at (entry_of lists.now entry) }
+    ensures held { AreHeld lists.now result }
 {
     match instr {
-        Instr::Store(_) => Ok(Way::Broken),
-        Instr::StoreAt(_) => Ok(Way::Broken),
-        Instr::JumpZero(_) => Ok(Way::Broken),
-        Instr::Item => Ok(Way::Broken),
-        Instr::Put(_) => Ok(Way::Broken),
-        Instr::Test(_) => Ok(Way::Broken),
-        Instr::Range(_, _) => Ok(Way::Broken),
+        Instr::Store(_) => Way::Broken,
+        Instr::StoreAt(_) => Way::Broken,
+        Instr::JumpZero(_) => Way::Broken,
+        Instr::Item => Way::Broken,
+        Instr::Put(_) => Way::Broken,
+        Instr::Test(_) => Way::Broken,
+        Instr::Range(_, _) => Way::Broken,
         _ => unreachable!(),
     }
 }
@@ -247,7 +238,7 @@ fn taking(
     requires held { IsHeld lists.now entry }
     requires top { operands_of lists.now entry.operands ≡ x.top ∷ operands_of lists.now x.below }
     requires below { x.below < length lists.now.operands }
-    requires at { at < 4294967295 }
+    requires at { at < MOST_INSTRUCTIONS }
     ensures leads { IfOk result (λ way. steps_of (plain code.now) lists.now way
         ≡ leads (plain code.now) (memberships (opening nested.now)) instr at (entry_of lists.now entry)) }
     ensures held { IfOk result (λ way. AreHeld lists.now way) }
@@ -276,7 +267,7 @@ fn moving(
     requires shape { IsOfShape instr Moves }
     requires ends { AreEnds (plain code.now) ends.now }
     requires held { IsHeld lists.now entry }
-    requires at { at < 4294967295 }
+    requires at { at < MOST_INSTRUCTIONS }
     ensures leads { IfOk result (λ way. steps_of (plain code.now) lists.now way
         ≡ leads (plain code.now) (memberships (opening nested.now)) instr at (entry_of lists.now entry)) }
     ensures held { IfOk result (λ way. AreHeld lists.now way) }
