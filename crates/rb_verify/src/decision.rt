@@ -21,9 +21,8 @@ use std::alloc::Global;
 /// Decides whether code is sound with its conversations, where its lists are well formed. `Unsound` says that it is not.
 ///
 /// `Memory` is answered for want of memory, and so that no code is costly: where more than 16,777,216 operands, open blocks or contexts are
-/// kept, those of lists with the same ones below counted once; where addresses were followed 67,108,864 times; for words that 64 bits do
-/// not count; and for code of more than 4,294,967,295 instructions. Other code may be sound then, but none that a source compiles to comes
-/// near.
+/// kept, those of lists with the same ones below counted once; for words that 64 bits do not count; and for code of more than 4,294,967,295
+/// instructions. Other code may be sound then, but none that a source compiles to comes near.
 pub fn verify(alloc: Global, code: &Code, nested: &Nested) -> Result<(), Refusal>
     requires well { IsWellFormed (plain code.now) (memberships (opening nested.now)) }
     ensures sound { IfOk result (λ _. IsSound (plain code.now) (memberships (opening nested.now))
