@@ -129,7 +129,8 @@ turn; push 1; jumpzero {a|M}; a: push 1; push 1; range 0 end; L: jump M; M: agai
 turn; push 1; push 1; range 0 end; L: {|enter 0; r0: turn; start 0; a0: t0: turn; push 1; test 0}; again 0 L; end: done; {turn; enter 0; r0: turn; start 0; a0: t0: turn; push 1; test 0; done|}
 turn; push 1; push 1; range 0 {end|3}; L: again 0 L; end: done
 turn; {push 1; push 1; range 0 end; L:|jump L; L:} again 0 L; end: done
-turn; push 1; push 1; range {0|2} end; L: again 0 L; end: done""".split("\n")
+turn; push 1; push 1; range {0|2} end; L: again 0 L; end: done
+turn; push 1; push 1; range 0 end; L: push 1; push 1; range 1 b; M: {|push 1; push 1; range 0 c; N: again 0 N; c:} again 1 M; b: again 0 L; end: done""".split("\n")
 
 TRAPS = [f"turn; push 1; push 1; {{|drop 0}}; {word}; jumpzero end; end: done" for word in ("add", "sub", "mul", "div", "rem")]
 TRAPS += """turn; push 1; {|drop 0}; neg; jumpzero end; end: done

@@ -5,7 +5,7 @@ use Rattle.rb_entries.specs.declared.entry.Held.{Held}
 use Rattle.rb_flow.specs.Held.{HasGrown, IsFront, IsHeld, entry_of}
 use Rattle.rb_flow.specs.declared.lists.Lists.{Lists}
 
-front_keeps : {X : Type 0} (xs ys : List (List X)) (i : ℕ) → IsFront xs ys → i < length xs → get_or ys i [] ≡ get_or xs i []
+pub front_keeps : {X : Type 0} (xs ys : List (List X)) (i : ℕ) → IsFront xs ys → i < length xs → get_or ys i [] ≡ get_or xs i []
 front_keeps xs ys i (more, is) h = ap (λ zs. get_or zs i []) is ∙ get_or_append_left xs more [] i h
 
 front_long : {X : Type 0} (xs ys : List (List X)) (i : ℕ) → IsFront xs ys → i < length xs → i < length ys

@@ -1,5 +1,5 @@
 -- One more instruction is looked at, from the last one backwards.
-use Rattle.std.proofs.Common.{◌≡◌, ℕ, ◌+◌, ◌-◌, ◌<◌, ◌≤◌, ◌&&◌, max, cond, nat_le, Bool, true, false, List, [], drop, length, get_or, Option, Some, None, refl, sym, ap, ◌∙◌, arith, add-one, le-leb, leb-true}
+use Rattle.std.proofs.Common.{◌≡◌, ℕ, ◌+◌, ◌<◌, ◌≤◌, ◌&&◌, max, cond, nat_le, Bool, true, false, List, drop, length, get_or, Option, Some, None, refl, sym, ap, ◌∙◌, arith, add-one, le-leb, leb-true}
 use Rattle.std.proofs.Math.Seq.{drop-cons}
 use Rattle.std.proofs.lemmas.List.{drop_all}
 use Rattle.rb_code.specs.declared.instr.Instr.{Instr}

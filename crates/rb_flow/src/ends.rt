@@ -1,6 +1,6 @@
 //! The ends of all loops, found in one pass.
 
-ghost use Rattle.std.specs.Prelude.{◌≡◌, ℕ, ◌<◌, ◌&&◌, nat_le, cond, map, length, get_or, Some, IfOk};
+ghost use Rattle.std.specs.Prelude.{◌≡◌, ℕ, ◌<◌, ◌≤◌, ◌&&◌, nat_le, cond, map, length, get_or, Some, IfOk};
 ghost use Rattle.rb_code.specs.Instructions.Plain.{code as plain, part, procedure};
 ghost use Rattle.rb_code.specs.SoundCode.Sound.{end_of_loop, goes_back};
 ghost use Rattle.std.specs.BTreeSet.{contains};
@@ -8,18 +8,19 @@ ghost use Rattle.std.specs.Ordering.{nat_cmp};
 ghost use Rattle.rb_code.specs.WordMachine.Workspace.{part_of};
 ghost use Rattle.rb_flow.specs.Flow.{is_start_among};
 ghost use Rattle.rb_flow.specs.Ends.{AreStartsOf, end_in, AreEnds};
+ghost use Rattle.rb_flow.specs.declared.ends.TheConstants.{MOST_INSTRUCTIONS};
 
 use rb_base::Memory;
 use rb_code::{Code, Instr, ProcedureCode, ProcessCode};
 use std::alloc::Global;
 use std::collections::BTreeSet;
 
-/// The most instructions of code that is looked at. A source compiles to far fewer.
-pub const MOST_INSTRUCTIONS: usize = 8_388_608;
+/// The most instructions of code that is looked at: their addresses, and the one behind the last of them, are numbers of 32 bits.
+pub const MOST_INSTRUCTIONS: usize = 4_294_967_295;
 
 /// For each address one more than the end of the loop over a counter that begins there, or 0 where there is none.
 pub fn ends_of_loops(alloc: Global, code: &Code, counter: u32) -> Result<Vec<u32>, Memory>
-    requires few { length code.now.instrs.items < 4294967295 }
+    requires few { length code.now.instrs.items ≤ MOST_INSTRUCTIONS }
     ensures { IfOk result (λ ends. (b : ℕ) → b < length code.now.instrs.items
         → end_in (get_or ends.items b 0) ≡ end_of_loop (plain code.now) counter b) }
 {
@@ -35,7 +36,7 @@ pub fn ends_of_loops(alloc: Global, code: &Code, counter: u32) -> Result<Vec<u32
 // An instruction that goes back is the end of the loop that begins where it goes.
 fn note_end(ends: &mut Vec<u32>, instr: Instr, counter: u32, at: u32)
     requires at { at < length ends.old.items }
-    requires few { at < 4294967295 }
+    requires few { at < MOST_INSTRUCTIONS }
     ensures size { length ends.new.items ≡ length ends.old.items }
     ensures ends { (b : ℕ) → b < length ends.old.items → end_in (get_or ends.new.items b 0)
         ≡ cond (goes_back counter b instr && nat_le b at) (Some at) (end_in (get_or ends.old.items b 0)) }
@@ -69,7 +70,7 @@ impl Drop for Ends {
 
 pub fn all_ends(alloc: Global, code: &Code) -> Result<Ends, Memory>
     ensures ends { IfOk result (λ ends. AreEnds (plain code.now) ends) }
-    ensures few { IfOk result (λ _. length code.now.instrs.items < 4294967295) }
+    ensures few { IfOk result (λ _. length code.now.instrs.items ≤ MOST_INSTRUCTIONS) }
 {
     if code.instrs.len() > MOST_INSTRUCTIONS {
         return Err(Memory);

@@ -12,6 +12,7 @@ ghost use Rattle.rb_flow.specs.Held.{blocks_of};
 ghost use Rattle.rb_flow.specs.Flow.{goes};
 ghost use Rattle.rb_flow.specs.Ways.{IsFlow};
 ghost use Rattle.rb_code.specs.declared.instr.Instr.TheVariants.{Enter, Start, Test};
+ghost use Rattle.rb_flow.specs.declared.ends.TheConstants.{MOST_INSTRUCTIONS};
 
 use crate::lists::Lists;
 use crate::rules::{
@@ -33,7 +34,7 @@ fn put_block(
     block: OpenBlock,
 ) -> Result<Way, Memory>
     requires held { IsHeld lists.old entry }
-    requires at { at < 4294967295 }
+    requires at { at < MOST_INSTRUCTIONS }
     ensures { IfOk result (λ way. IsFlow (plain code.now) lists.old lists.new way (goes (at + 1)
         (record (entry_of lists.old entry) { operands = []; blocks = block_of block ∷ blocks_of lists.old entry.blocks; mode = Changed }))) }
 {
@@ -63,7 +64,7 @@ pub fn enter(
     b: u32,
 ) -> Result<Way, Memory>
     requires held { IsHeld lists.old entry }
-    requires at { at < 4294967295 }
+    requires at { at < MOST_INSTRUCTIONS }
     ensures { IfOk result (λ way. IsFlow (plain code.now) lists.old lists.new way
         (leads (plain code.now) (memberships (opening nested.now)) (Enter b) at (entry_of lists.old entry))) }
 {
@@ -90,7 +91,7 @@ pub fn enter(
 #[tactic(auto, using(crate::proofs::Chosen::chosen_leads, crate::proofs::Chosen::chosen_held, crate::proofs::Chosen::when_and))]
 pub fn start(code: &Code, nested: &Nested, lists: &Lists, at: u32, entry: Held, b: u32) -> Way
     requires held { IsHeld lists.now entry }
-    requires at { at < 4294967295 }
+    requires at { at < MOST_INSTRUCTIONS }
     ensures leads { steps_of (plain code.now) lists.now result
         ≡ leads (plain code.now) (memberships (opening nested.now)) (Start b) at (entry_of lists.now entry) }
     ensures held { AreHeld lists.now result }
@@ -118,7 +119,7 @@ pub fn test(
     requires held { IsHeld lists.now entry }
     requires top { operands_of lists.now entry.operands ≡ x.top ∷ operands_of lists.now x.below }
     requires below { x.below < length lists.now.operands }
-    requires at { at < 4294967295 }
+    requires at { at < MOST_INSTRUCTIONS }
     ensures leads { steps_of (plain code.now) lists.now result
         ≡ leads (plain code.now) (memberships (opening nested.now)) (Test b) at (entry_of lists.now entry) }
     ensures held { AreHeld lists.now result }

@@ -10,7 +10,8 @@ ghost use Rattle.rb_flow.specs.Flow.{flow_at};
 ghost use Rattle.rb_flow.specs.Ways.{IsFlow};
 ghost use Rattle.rb_flow.specs.Ends.{AreEnds};
 ghost use Rattle.rb_flow.specs.Shapes.{IsOfShape};
-ghost use Rattle.rb_code.specs.declared.instr.Instr.TheVariants.{Turn};
+ghost use Rattle.rb_flow.specs.declared.flow.Shape.TheVariants.{Moves, Operates, Pushes, Takes};
+ghost use Rattle.rb_flow.specs.declared.ends.TheConstants.{MOST_INSTRUCTIONS};
 
 use crate::ends::Ends;
 use crate::entering::{enter, start, test};
@@ -43,9 +44,6 @@ pub fn flow(
     ensures { IfOk result (λ way. IsFlow (plain code.now) lists.old lists.new way
         (flow_at (plain code.now) (memberships (opening nested.now)) at (entry_of lists.old entry))) }
 {
-    if at >= 4_294_967_295 {
-        return Err(Memory);
-    }
     match instr_at(code, at) {
         None => Ok(Way::Broken),
         Some(instr) => {
@@ -67,7 +65,7 @@ fn instr_at(code: &Code, at: u32) -> Option<Instr>
     }
 }
 
-// What an instruction does with operands. Each function below answers Memory for what is not its own.
+// What an instruction does with operands. Each function below is called for what is its own.
 #[derive(Clone, Copy)]
 enum Shape {
     Pushes,
@@ -116,7 +114,7 @@ fn shape_of(instr: Instr) -> Shape
 }
 
 // Where an instruction leads at an address.
-#[tactic(auto, using(crate::proofs::Chosen::quiet_call))]
+#[tactic(auto, using(crate::proofs::Chosen::quiet_call, crate::proofs::Chosen::quiet_flow))]
 fn flow_of(
     code: &Code,
     nested: &Nested,
@@ -128,7 +126,7 @@ fn flow_of(
 ) -> Result<Way, Memory>
     requires ends { AreEnds (plain code.now) ends.now }
     requires held { IsHeld lists.old entry }
-    requires at { at < 4294967295 }
+    requires at { at < MOST_INSTRUCTIONS }
     ensures { IfOk result (λ way. IsFlow (plain code.now) lists.old lists.new way
         (leads (plain code.now) (memberships (opening nested.now)) instr at (entry_of lists.old entry))) }
 {
@@ -136,7 +134,7 @@ fn flow_of(
         Shape::Pushes => pushing(code, nested, lists, at, instr, entry),
         Shape::Operates => operating(code, nested, lists, at, instr, entry),
         Shape::Takes => match lists.operands.top(entry.operands) {
-            None => lacking(code, nested, lists, at, instr, entry),
+            None => Ok(lacking(code, nested, lists, at, instr, entry)),
             Some(x) => taking(code, nested, ends, lists, at, instr, entry, x),
         },
         Shape::Enters(b) => enter(code, nested, lists, at, entry, b),
@@ -152,8 +150,9 @@ fn pushing(
     instr: Instr,
     entry: Held,
 ) -> Result<Way, Memory>
+    requires shape { IsOfShape instr Pushes }
     requires held { IsHeld lists.old entry }
-    requires at { at < 4294967295 }
+    requires at { at < MOST_INSTRUCTIONS }
     ensures { IfOk result (λ way. IsFlow (plain code.now) lists.old lists.new way
         (leads (plain code.now) (memberships (opening nested.now)) instr at (entry_of lists.old entry))) }
 {
@@ -163,7 +162,7 @@ fn pushing(
         Instr::Prior(v) => prior(code, nested, lists, at, entry, v),
         Instr::Counter(k) => counter(code, nested, lists, at, entry, k),
         Instr::Take(channel) => take(code, nested, lists, at, entry, channel),
-        _ => Err(Memory),
+        _ => unreachable!(),
     }
 }
 
@@ -175,8 +174,9 @@ fn operating(
     instr: Instr,
     entry: Held,
 ) -> Result<Way, Memory>
+    requires shape { IsOfShape instr Operates }
     requires held { IsHeld lists.old entry }
-    requires at { at < 4294967295 }
+    requires at { at < MOST_INSTRUCTIONS }
     ensures { IfOk result (λ way. IsFlow (plain code.now) lists.old lists.new way
         (leads (plain code.now) (memberships (opening nested.now)) instr at (entry_of lists.old entry))) }
 {
@@ -198,34 +198,28 @@ fn operating(
         Instr::Bound(n) => bound(code, nested, lists, at, entry, n),
         Instr::LoadAt(v) => load_at(code, nested, lists, at, entry, v),
         Instr::PriorAt(v) => prior_at(code, nested, lists, at, entry, v),
-        _ => Err(Memory),
+        _ => unreachable!(),
     }
 }
 
 // Where an instruction leads that takes operands, where there are none.
 #[tactic(auto, using(crate::proofs::Chosen::when_none))]
-fn lacking(
-    code: &Code,
-    nested: &Nested,
-    lists: &Lists,
-    at: u32,
-    instr: Instr,
-    entry: Held,
-) -> Result<Way, Memory>
+fn lacking(code: &Code, nested: &Nested, lists: &Lists, at: u32, instr: Instr, entry: Held) -> Way
+    requires shape { IsOfShape instr Takes }
     requires none { operands_of lists.now entry.operands ≡ [] }
-    ensures leads { IfOk result (λ way. steps_of (plain code.now) lists.now way
-        ≡ leads (plain code.now) (memberships (opening nested.now)) instr at (entry_of lists.now entry)) }
-    ensures held { IfOk result (λ way. AreHeld lists.now way) }
+    ensures leads { steps_of (plain code.now) lists.now result
+        ≡ leads (plain code.now) (memberships (opening nested.now)) instr at (entry_of lists.now entry) }
+    ensures held { AreHeld lists.now result }
 {
     match instr {
-        Instr::Store(_) => Ok(Way::Broken),
-        Instr::StoreAt(_) => Ok(Way::Broken),
-        Instr::JumpZero(_) => Ok(Way::Broken),
-        Instr::Item => Ok(Way::Broken),
-        Instr::Put(_) => Ok(Way::Broken),
-        Instr::Test(_) => Ok(Way::Broken),
-        Instr::Range(_, _) => Ok(Way::Broken),
-        _ => Err(Memory),
+        Instr::Store(_) => Way::Broken,
+        Instr::StoreAt(_) => Way::Broken,
+        Instr::JumpZero(_) => Way::Broken,
+        Instr::Item => Way::Broken,
+        Instr::Put(_) => Way::Broken,
+        Instr::Test(_) => Way::Broken,
+        Instr::Range(_, _) => Way::Broken,
+        _ => unreachable!(),
     }
 }
 
@@ -239,11 +233,12 @@ fn taking(
     entry: Held,
     x: Top,
 ) -> Result<Way, Memory>
+    requires shape { IsOfShape instr Takes }
     requires ends { AreEnds (plain code.now) ends.now }
     requires held { IsHeld lists.now entry }
     requires top { operands_of lists.now entry.operands ≡ x.top ∷ operands_of lists.now x.below }
     requires below { x.below < length lists.now.operands }
-    requires at { at < 4294967295 }
+    requires at { at < MOST_INSTRUCTIONS }
     ensures leads { IfOk result (λ way. steps_of (plain code.now) lists.now way
         ≡ leads (plain code.now) (memberships (opening nested.now)) instr at (entry_of lists.now entry)) }
     ensures held { IfOk result (λ way. AreHeld lists.now way) }
@@ -256,7 +251,7 @@ fn taking(
         Instr::Put(channel) => Ok(put_message(code, nested, lists, at, entry, x, channel)),
         Instr::Test(b) => Ok(test(code, nested, lists, at, entry, x, b)),
         Instr::Range(k, b) => range(code, nested, ends, lists, at, entry, x, k, b),
-        _ => Err(Memory),
+        _ => unreachable!(),
     }
 }
 
@@ -269,9 +264,10 @@ fn moving(
     instr: Instr,
     entry: Held,
 ) -> Result<Way, Memory>
+    requires shape { IsOfShape instr Moves }
     requires ends { AreEnds (plain code.now) ends.now }
     requires held { IsHeld lists.now entry }
-    requires at { at < 4294967295 }
+    requires at { at < MOST_INSTRUCTIONS }
     ensures leads { IfOk result (λ way. steps_of (plain code.now) lists.now way
         ≡ leads (plain code.now) (memberships (opening nested.now)) instr at (entry_of lists.now entry)) }
     ensures held { IfOk result (λ way. AreHeld lists.now way) }
@@ -292,6 +288,6 @@ fn moving(
         Instr::Fail => Ok(fail(code, nested, lists, at, entry)),
         Instr::Again(k, b) => Ok(again(code, nested, lists, at, entry, k, b)),
         Instr::Start(b) => Ok(start(code, nested, lists, at, entry, b)),
-        _ => Err(Memory),
+        _ => unreachable!(),
     }
 }

@@ -8,6 +8,7 @@ ghost use Rattle.rb_flow.specs.Flow.{flow as leads};
 ghost use Rattle.rb_flow.specs.Ends.{AreEnds};
 ghost use Rattle.rb_flow.specs.Ways.{steps_of, AreHeld};
 ghost use Rattle.rb_code.specs.declared.instr.Instr.TheVariants.{Absent, Again, Call, Done, Drop, Fail, Frame, Jump, Print, Return, Room, Text, There, Turn};
+ghost use Rattle.rb_flow.specs.declared.ends.TheConstants.{MOST_INSTRUCTIONS};
 
 use crate::ends::{Ends, is_procedure};
 use crate::lists::Lists;
@@ -25,7 +26,7 @@ use rb_entries::entry::{Held, Loops, Mode, Within};
 #[tactic(auto, using(crate::proofs::Chosen::chosen_leads, crate::proofs::Chosen::chosen_held, crate::proofs::Chosen::when_and))]
 pub fn turn(code: &Code, nested: &Nested, lists: &Lists, at: u32, entry: Held) -> Way
     requires held { IsHeld lists.now entry }
-    requires at { at < 4294967295 }
+    requires at { at < MOST_INSTRUCTIONS }
     ensures leads { steps_of (plain code.now) lists.now result
         ≡ leads (plain code.now) (memberships (opening nested.now)) Turn at (entry_of lists.now entry) }
     ensures held { AreHeld lists.now result }
@@ -45,7 +46,7 @@ pub fn turn(code: &Code, nested: &Nested, lists: &Lists, at: u32, entry: Held) -
 #[tactic(auto, using(crate::proofs::Chosen::chosen_leads, crate::proofs::Chosen::chosen_held))]
 pub fn jump(code: &Code, nested: &Nested, lists: &Lists, at: u32, entry: Held, b: u32) -> Way
     requires held { IsHeld lists.now entry }
-    requires at { at < 4294967295 }
+    requires at { at < MOST_INSTRUCTIONS }
     ensures leads { steps_of (plain code.now) lists.now result
         ≡ leads (plain code.now) (memberships (opening nested.now)) (Jump b) at (entry_of lists.now entry) }
     ensures held { AreHeld lists.now result }
@@ -73,31 +74,32 @@ pub fn frame(
     n: u32,
 ) -> Result<Way, Memory>
     requires held { IsHeld lists.now entry }
-    requires at { at < 4294967295 }
+    requires at { at < MOST_INSTRUCTIONS }
     ensures leads { IfOk result (λ way. steps_of (plain code.now) lists.now way
         ≡ leads (plain code.now) (memberships (opening nested.now)) (Frame n) at (entry_of lists.now entry)) }
     ensures held { IfOk result (λ way. AreHeld lists.now way) }
 {
-    let words = match entry.words.checked_add(u64::from(n)) {
-        None => return Err(Memory),
-        Some(words) => words,
-    };
-    let way = Way::One(
-        at + 1,
-        Held {
-            words,
-            mode: Mode::Changed,
-            ..entry
-        },
-    );
-    Ok(when(may_frame(entry.mode), way))
+    if !may_frame(entry.mode) {
+        return Ok(Way::Broken);
+    }
+    match entry.words.checked_add(u64::from(n)) {
+        None => Err(Memory),
+        Some(words) => Ok(Way::One(
+            at + 1,
+            Held {
+                words,
+                mode: Mode::Changed,
+                ..entry
+            },
+        )),
+    }
 }
 
 /// Fewer words.
 #[tactic(auto, using(crate::proofs::Chosen::chosen_leads, crate::proofs::Chosen::chosen_held))]
 pub fn drop_words(code: &Code, nested: &Nested, lists: &Lists, at: u32, entry: Held, n: u32) -> Way
     requires held { IsHeld lists.now entry }
-    requires at { at < 4294967295 }
+    requires at { at < MOST_INSTRUCTIONS }
     ensures leads { steps_of (plain code.now) lists.now result
         ≡ leads (plain code.now) (memberships (opening nested.now)) (Drop n) at (entry_of lists.now entry) }
     ensures held { AreHeld lists.now result }
@@ -121,7 +123,7 @@ pub fn drop_words(code: &Code, nested: &Nested, lists: &Lists, at: u32, entry: H
 #[tactic(auto, using(crate::proofs::Chosen::chosen_leads, crate::proofs::Chosen::chosen_held, crate::proofs::Chosen::when_none))]
 pub fn text(code: &Code, nested: &Nested, lists: &Lists, at: u32, entry: Held, k: u32) -> Way
     requires held { IsHeld lists.now entry }
-    requires at { at < 4294967295 }
+    requires at { at < MOST_INSTRUCTIONS }
     ensures leads { steps_of (plain code.now) lists.now result
         ≡ leads (plain code.now) (memberships (opening nested.now)) (Text k) at (entry_of lists.now entry) }
     ensures held { AreHeld lists.now result }
@@ -144,7 +146,7 @@ pub fn text(code: &Code, nested: &Nested, lists: &Lists, at: u32, entry: Held, k
 #[tactic(auto, using(crate::proofs::Chosen::chosen_leads, crate::proofs::Chosen::chosen_held))]
 pub fn print(code: &Code, nested: &Nested, lists: &Lists, at: u32, entry: Held) -> Way
     requires held { IsHeld lists.now entry }
-    requires at { at < 4294967295 }
+    requires at { at < MOST_INSTRUCTIONS }
     ensures leads { steps_of (plain code.now) lists.now result
         ≡ leads (plain code.now) (memberships (opening nested.now)) Print at (entry_of lists.now entry) }
     ensures held { AreHeld lists.now result }
@@ -164,7 +166,7 @@ pub fn print(code: &Code, nested: &Nested, lists: &Lists, at: u32, entry: Held) 
 #[tactic(auto, using(crate::proofs::Chosen::chosen_leads, crate::proofs::Chosen::chosen_held, crate::proofs::Chosen::when_and))]
 pub fn room(code: &Code, nested: &Nested, lists: &Lists, at: u32, entry: Held, channel: u32) -> Way
     requires held { IsHeld lists.now entry }
-    requires at { at < 4294967295 }
+    requires at { at < MOST_INSTRUCTIONS }
     ensures leads { steps_of (plain code.now) lists.now result
         ≡ leads (plain code.now) (memberships (opening nested.now)) (Room channel) at (entry_of lists.now entry) }
     ensures held { AreHeld lists.now result }
@@ -184,7 +186,7 @@ pub fn room(code: &Code, nested: &Nested, lists: &Lists, at: u32, entry: Held, c
 #[tactic(auto, using(crate::proofs::Chosen::chosen_leads, crate::proofs::Chosen::chosen_held, crate::proofs::Chosen::when_and))]
 pub fn there(code: &Code, nested: &Nested, lists: &Lists, at: u32, entry: Held, channel: u32) -> Way
     requires held { IsHeld lists.now entry }
-    requires at { at < 4294967295 }
+    requires at { at < MOST_INSTRUCTIONS }
     ensures leads { steps_of (plain code.now) lists.now result
         ≡ leads (plain code.now) (memberships (opening nested.now)) (There channel) at (entry_of lists.now entry) }
     ensures held { AreHeld lists.now result }
@@ -212,7 +214,7 @@ pub fn absent(
     b: u32,
 ) -> Way
     requires held { IsHeld lists.now entry }
-    requires at { at < 4294967295 }
+    requires at { at < MOST_INSTRUCTIONS }
     ensures leads { steps_of (plain code.now) lists.now result
         ≡ leads (plain code.now) (memberships (opening nested.now)) (Absent channel b) at (entry_of lists.now entry) }
     ensures held { AreHeld lists.now result }
@@ -246,7 +248,7 @@ pub fn call(
 ) -> Way
     requires ends { AreEnds (plain code.now) ends.now }
     requires held { IsHeld lists.now entry }
-    requires at { at < 4294967295 }
+    requires at { at < MOST_INSTRUCTIONS }
     ensures leads { steps_of (plain code.now) lists.now result
         ≡ leads (plain code.now) (memberships (opening nested.now)) (Call b p n) at (entry_of lists.now entry) }
     ensures held { AreHeld lists.now result }
@@ -281,7 +283,7 @@ pub fn call(
 #[tactic(auto, using(crate::proofs::Chosen::chosen_leads, crate::proofs::Chosen::chosen_held, crate::proofs::Chosen::when_and))]
 pub fn returns(code: &Code, nested: &Nested, lists: &Lists, at: u32, entry: Held) -> Way
     requires held { IsHeld lists.now entry }
-    requires at { at < 4294967295 }
+    requires at { at < MOST_INSTRUCTIONS }
     ensures leads { steps_of (plain code.now) lists.now result
         ≡ leads (plain code.now) (memberships (opening nested.now)) Return at (entry_of lists.now entry) }
     ensures held { AreHeld lists.now result }
@@ -295,7 +297,7 @@ pub fn returns(code: &Code, nested: &Nested, lists: &Lists, at: u32, entry: Held
 #[tactic(auto, using(crate::proofs::Chosen::chosen_leads, crate::proofs::Chosen::chosen_held, crate::proofs::Chosen::when_and))]
 pub fn done(code: &Code, nested: &Nested, lists: &Lists, at: u32, entry: Held) -> Way
     requires held { IsHeld lists.now entry }
-    requires at { at < 4294967295 }
+    requires at { at < MOST_INSTRUCTIONS }
     ensures leads { steps_of (plain code.now) lists.now result
         ≡ leads (plain code.now) (memberships (opening nested.now)) Done at (entry_of lists.now entry) }
     ensures held { AreHeld lists.now result }
@@ -309,7 +311,7 @@ pub fn done(code: &Code, nested: &Nested, lists: &Lists, at: u32, entry: Held) -
 #[tactic(auto, using(crate::proofs::Chosen::chosen_leads, crate::proofs::Chosen::chosen_held))]
 pub fn fail(code: &Code, nested: &Nested, lists: &Lists, at: u32, entry: Held) -> Way
     requires held { IsHeld lists.now entry }
-    requires at { at < 4294967295 }
+    requires at { at < MOST_INSTRUCTIONS }
     ensures leads { steps_of (plain code.now) lists.now result
         ≡ leads (plain code.now) (memberships (opening nested.now)) Fail at (entry_of lists.now entry) }
     ensures held { AreHeld lists.now result }
@@ -330,7 +332,7 @@ pub fn again(
     b: u32,
 ) -> Way
     requires held { IsHeld lists.now entry }
-    requires at { at < 4294967295 }
+    requires at { at < MOST_INSTRUCTIONS }
     ensures leads { steps_of (plain code.now) lists.now result
         ≡ leads (plain code.now) (memberships (opening nested.now)) (Again k b) at (entry_of lists.now entry) }
     ensures held { AreHeld lists.now result }

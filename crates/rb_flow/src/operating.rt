@@ -7,6 +7,7 @@ ghost use Rattle.rb_flow.specs.Held.{entry_of, IsHeld};
 ghost use Rattle.rb_flow.specs.Flow.{flow as leads, takes_one as takes_a, takes_two as takes_both};
 ghost use Rattle.rb_flow.specs.Ways.{IsFlow};
 ghost use Rattle.rb_code.specs.declared.instr.Instr.TheVariants.{Add, Bound, LoadAt, Neg, PriorAt};
+ghost use Rattle.rb_flow.specs.declared.ends.TheConstants.{MOST_INSTRUCTIONS};
 
 use crate::lists::Lists;
 use crate::pushing::put;
@@ -19,7 +20,7 @@ use rb_entries::entry::Held;
 /// One operand becomes a plain one.
 pub fn takes_one(code: &Code, lists: &mut Lists, at: u32, entry: Held) -> Result<Way, Memory>
     requires held { IsHeld lists.old entry }
-    requires at { at < 4294967295 }
+    requires at { at < MOST_INSTRUCTIONS }
     ensures { IfOk result (λ way. IsFlow (plain code.now) lists.old lists.new way
         (takes_a at (entry_of lists.old entry))) }
 {
@@ -32,7 +33,7 @@ pub fn takes_one(code: &Code, lists: &mut Lists, at: u32, entry: Held) -> Result
 /// Two operands become one.
 pub fn takes_two(code: &Code, lists: &mut Lists, at: u32, entry: Held) -> Result<Way, Memory>
     requires held { IsHeld lists.old entry }
-    requires at { at < 4294967295 }
+    requires at { at < MOST_INSTRUCTIONS }
     ensures { IfOk result (λ way. IsFlow (plain code.now) lists.old lists.new way
         (takes_both at (entry_of lists.old entry))) }
 {
@@ -55,7 +56,7 @@ pub fn trapping(
     entry: Held,
 ) -> Result<Way, Memory>
     requires held { IsHeld lists.old entry }
-    requires at { at < 4294967295 }
+    requires at { at < MOST_INSTRUCTIONS }
     ensures { IfOk result (λ way. IsFlow (plain code.now) lists.old lists.new way
         (leads (plain code.now) (memberships (opening nested.now)) Add at (entry_of lists.old entry))) }
 {
@@ -75,7 +76,7 @@ pub fn negated(
     entry: Held,
 ) -> Result<Way, Memory>
     requires held { IsHeld lists.old entry }
-    requires at { at < 4294967295 }
+    requires at { at < MOST_INSTRUCTIONS }
     ensures { IfOk result (λ way. IsFlow (plain code.now) lists.old lists.new way
         (leads (plain code.now) (memberships (opening nested.now)) Neg at (entry_of lists.old entry))) }
 {
@@ -96,7 +97,7 @@ pub fn bound(
     n: u32,
 ) -> Result<Way, Memory>
     requires held { IsHeld lists.old entry }
-    requires at { at < 4294967295 }
+    requires at { at < MOST_INSTRUCTIONS }
     ensures { IfOk result (λ way. IsFlow (plain code.now) lists.old lists.new way
         (leads (plain code.now) (memberships (opening nested.now)) (Bound n) at (entry_of lists.old entry))) }
 {
@@ -120,7 +121,7 @@ pub fn load_at(
     v: Spot,
 ) -> Result<Way, Memory>
     requires held { IsHeld lists.old entry }
-    requires at { at < 4294967295 }
+    requires at { at < MOST_INSTRUCTIONS }
     ensures { IfOk result (λ way. IsFlow (plain code.now) lists.old lists.new way
         (leads (plain code.now) (memberships (opening nested.now)) (LoadAt v) at (entry_of lists.old entry))) }
 {
@@ -147,7 +148,7 @@ pub fn prior_at(
     v: Spot,
 ) -> Result<Way, Memory>
     requires held { IsHeld lists.old entry }
-    requires at { at < 4294967295 }
+    requires at { at < MOST_INSTRUCTIONS }
     ensures { IfOk result (λ way. IsFlow (plain code.now) lists.old lists.new way
         (leads (plain code.now) (memberships (opening nested.now)) (PriorAt v) at (entry_of lists.old entry))) }
 {

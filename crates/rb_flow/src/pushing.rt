@@ -9,6 +9,7 @@ ghost use Rattle.rb_flow.specs.Held.{entry_of, operands_of, IsHeld};
 ghost use Rattle.rb_flow.specs.Flow.{flow as leads, goes, pushes as puts_one};
 ghost use Rattle.rb_flow.specs.Ways.{IsFlow};
 ghost use Rattle.rb_code.specs.declared.instr.Instr.TheVariants.{Counter, Load, Prior, Take};
+ghost use Rattle.rb_flow.specs.declared.ends.TheConstants.{MOST_INSTRUCTIONS};
 
 use crate::lists::Lists;
 use crate::rules::{freed, in_range, is_set, may_take, prior_in_range, words_of};
@@ -30,7 +31,7 @@ pub fn put(
 ) -> Result<Way, Memory>
     requires held { IsHeld lists.old entry }
     requires below { below < length lists.old.operands }
-    requires at { at < 4294967295 }
+    requires at { at < MOST_INSTRUCTIONS }
     ensures { IfOk result (λ way. IsFlow (plain code.now) lists.old lists.new way
         (goes (at + 1) (record (entry_of lists.old entry) { operands = top ∷ operands_of lists.old below; mode = mode_of mode }))) }
 {
@@ -51,7 +52,7 @@ pub fn put(
 /// One operand more.
 pub fn pushes(code: &Code, lists: &mut Lists, at: u32, entry: Held) -> Result<Way, Memory>
     requires held { IsHeld lists.old entry }
-    requires at { at < 4294967295 }
+    requires at { at < MOST_INSTRUCTIONS }
     ensures { IfOk result (λ way. IsFlow (plain code.now) lists.old lists.new way
         (puts_one at (entry_of lists.old entry))) }
 {
@@ -80,7 +81,7 @@ pub fn load(
     v: Spot,
 ) -> Result<Way, Memory>
     requires held { IsHeld lists.old entry }
-    requires at { at < 4294967295 }
+    requires at { at < MOST_INSTRUCTIONS }
     ensures { IfOk result (λ way. IsFlow (plain code.now) lists.old lists.new way
         (leads (plain code.now) (memberships (opening nested.now)) (Load v) at (entry_of lists.old entry))) }
 {
@@ -102,7 +103,7 @@ pub fn prior(
     v: Spot,
 ) -> Result<Way, Memory>
     requires held { IsHeld lists.old entry }
-    requires at { at < 4294967295 }
+    requires at { at < MOST_INSTRUCTIONS }
     ensures { IfOk result (λ way. IsFlow (plain code.now) lists.old lists.new way
         (leads (plain code.now) (memberships (opening nested.now)) (Prior v) at (entry_of lists.old entry))) }
 {
@@ -124,7 +125,7 @@ pub fn counter(
     k: u32,
 ) -> Result<Way, Memory>
     requires held { IsHeld lists.old entry }
-    requires at { at < 4294967295 }
+    requires at { at < MOST_INSTRUCTIONS }
     ensures { IfOk result (λ way. IsFlow (plain code.now) lists.old lists.new way
         (leads (plain code.now) (memberships (opening nested.now)) (Counter k) at (entry_of lists.old entry))) }
 {
@@ -145,7 +146,7 @@ pub fn take(
     channel: u32,
 ) -> Result<Way, Memory>
     requires held { IsHeld lists.old entry }
-    requires at { at < 4294967295 }
+    requires at { at < MOST_INSTRUCTIONS }
     ensures { IfOk result (λ way. IsFlow (plain code.now) lists.old lists.new way
         (leads (plain code.now) (memberships (opening nested.now)) (Take channel) at (entry_of lists.old entry))) }
 {

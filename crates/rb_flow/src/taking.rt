@@ -9,6 +9,7 @@ ghost use Rattle.rb_flow.specs.Ways.{steps_of, AreHeld};
 ghost use Rattle.rb_entries.specs.Parts.{loop_of, loops_of};
 ghost use Rattle.rb_flow.specs.Ends.{AreEnds};
 ghost use Rattle.rb_code.specs.declared.instr.Instr.TheVariants.{Item, JumpZero, Put, Range, Store, StoreAt};
+ghost use Rattle.rb_flow.specs.declared.ends.TheConstants.{MOST_INSTRUCTIONS};
 
 use crate::ends::{Ends, end_of};
 use crate::lists::Lists;
@@ -36,7 +37,7 @@ pub fn store(
     requires held { IsHeld lists.now entry }
     requires top { operands_of lists.now entry.operands ≡ x.top ∷ operands_of lists.now x.below }
     requires below { x.below < length lists.now.operands }
-    requires at { at < 4294967295 }
+    requires at { at < MOST_INSTRUCTIONS }
     ensures leads { steps_of (plain code.now) lists.now result
         ≡ leads (plain code.now) (memberships (opening nested.now)) (Store v) at (entry_of lists.now entry) }
     ensures held { AreHeld lists.now result }
@@ -69,7 +70,7 @@ pub fn store_at(
     requires held { IsHeld lists.now entry }
     requires top { operands_of lists.now entry.operands ≡ x.top ∷ operands_of lists.now x.below }
     requires below { x.below < length lists.now.operands }
-    requires at { at < 4294967295 }
+    requires at { at < MOST_INSTRUCTIONS }
     ensures leads { steps_of (plain code.now) lists.now result
         ≡ leads (plain code.now) (memberships (opening nested.now)) (StoreAt v) at (entry_of lists.now entry) }
     ensures held { AreHeld lists.now result }
@@ -106,7 +107,7 @@ pub fn jump_zero(
     requires held { IsHeld lists.now entry }
     requires top { operands_of lists.now entry.operands ≡ x.top ∷ operands_of lists.now x.below }
     requires below { x.below < length lists.now.operands }
-    requires at { at < 4294967295 }
+    requires at { at < MOST_INSTRUCTIONS }
     ensures leads { steps_of (plain code.now) lists.now result
         ≡ leads (plain code.now) (memberships (opening nested.now)) (JumpZero b) at (entry_of lists.now entry) }
     ensures held { AreHeld lists.now result }
@@ -126,7 +127,7 @@ pub fn item(code: &Code, nested: &Nested, lists: &Lists, at: u32, entry: Held, x
     requires held { IsHeld lists.now entry }
     requires top { operands_of lists.now entry.operands ≡ x.top ∷ operands_of lists.now x.below }
     requires below { x.below < length lists.now.operands }
-    requires at { at < 4294967295 }
+    requires at { at < MOST_INSTRUCTIONS }
     ensures leads { steps_of (plain code.now) lists.now result
         ≡ leads (plain code.now) (memberships (opening nested.now)) Item at (entry_of lists.now entry) }
     ensures held { AreHeld lists.now result }
@@ -159,7 +160,7 @@ pub fn put_message(
     requires held { IsHeld lists.now entry }
     requires top { operands_of lists.now entry.operands ≡ x.top ∷ operands_of lists.now x.below }
     requires below { x.below < length lists.now.operands }
-    requires at { at < 4294967295 }
+    requires at { at < MOST_INSTRUCTIONS }
     ensures leads { steps_of (plain code.now) lists.now result
         ≡ leads (plain code.now) (memberships (opening nested.now)) (Put channel) at (entry_of lists.now entry) }
     ensures held { AreHeld lists.now result }
@@ -192,7 +193,7 @@ pub fn range(
     requires held { IsHeld lists.now entry }
     requires top { operands_of lists.now entry.operands ≡ x.top ∷ operands_of lists.now x.below }
     requires below { x.below < length lists.now.operands }
-    requires at { at < 4294967295 }
+    requires at { at < MOST_INSTRUCTIONS }
     ensures leads { IfOk result (λ way. steps_of (plain code.now) lists.now way
         ≡ leads (plain code.now) (memberships (opening nested.now)) (Range k b) at (entry_of lists.now entry)) }
     ensures held { IfOk result (λ way. AreHeld lists.now way) }
@@ -208,24 +209,24 @@ pub fn range(
         None => return Ok(Way::Broken),
         Some(last) => last,
     };
+    let may = may_trap(entry.mode) & !is_set(k, entry.loops) & is_ahead(code, at, b);
+    if !may {
+        return Ok(Way::Broken);
+    }
     let past = Held {
         operands: y.below,
         mode: freed(entry.mode),
         ..entry
     };
-    let inside = match deeper(
-        entry.loops,
-        Loop {
-            counter: k,
-            first: at + 1,
-            last,
-        },
-    ) {
-        None => return Err(Memory),
-        Some(loops) => Held { loops, ..past },
+    let inner = Loop {
+        counter: k,
+        first: at + 1,
+        last,
     };
-    let may = may_trap(entry.mode) & !is_set(k, entry.loops) & is_ahead(code, at, b);
-    Ok(when(may, Way::Two(b, past, at + 1, inside)))
+    match deeper(entry.loops, inner) {
+        None => Err(Memory),
+        Some(loops) => Ok(Way::Two(b, past, at + 1, Held { loops, ..past })),
+    }
 }
 
 // One loop more inside others, if these are not two.

@@ -9,3 +9,4 @@ pub mod Beginning
 pub mod Weights
 pub mod LoopsStay
 pub mod MembersJoin
+pub mod Lightening

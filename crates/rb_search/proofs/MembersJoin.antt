@@ -1,14 +1,16 @@
 -- Whether each member joins its conversations once, as it is told from the list of all blocks of conversations that are entered.
-use Rattle.std.proofs.Common.{◌≡◌, ◌⊎◌, inl, inr, ◌↔◌, ℕ, zero, suc, ◌+◌, ◌-◌, ◌<◌, ◌&&◌, nat_eq, not, cond, Bool, true, false, List, [], ◌∷◌, ◌++◌, length, map, slice_get, Option, Some, None, Contains, refl, sym, ap, ◌∙◌, subst, arith, eqb-true, eq-eqb}
+use Rattle.std.proofs.Common.{◌≡◌, ◌⊎◌, inl, inr, ◌↔◌, ℕ, zero, suc, ◌+◌, ◌<◌, ◌&&◌, nat_eq, not, cond, Bool, true, false, List, [], ◌∷◌, ◌++◌, length, map, slice_get, Option, Some, None, Contains, refl, sym, ap, ◌∙◌, subst, arith, eqb-true, eq-eqb}
 use Rattle.std.proofs.lemmas.List.Elements.{Contains-append_cases}
 use Rattle.rb_base.specs.declared.names.Group.{Group}
 use Rattle.rb_conv.specs.Conversations.{Conversation, membership, opened}
 use Rattle.rb_code.specs.Instructions.Plain.{Block, Code}
-use Rattle.rb_code.specs.SoundCode.Sound.{Entry, IsMember, Table}
+use Rattle.rb_world.specs.Kind.{Membership}
+use Rattle.rb_world.specs.Turn.{members_of}
+use Rattle.rb_code.specs.SoundCode.Sound.{Entry, Fine, FineAt, HasTable, IsMember, MayEnter, Table, conversation_of}
 use Rattle.rb_code.specs.SoundCode.WellFormed.{Joins, JoinsOnce}
 use Rattle.rb_code.specs.declared.instr.Instr.{Instr}
 use Rattle.rb_code.specs.declared.instr.Instr.TheVariants.{Enter}
-use Rattle.rb_search.specs.Joinings.{AreJoinings, conversed, entered, enters, first_of, groups_join, is_of, joining_at, joins_once, members_join, noted, once_by, only_block, process_at}
+use Rattle.rb_search.specs.Joinings.{AreJoinings, EntersTwo, conversed, entered, enters, first_of, groups_join, is_of, joining_at, joins_once, members_join, noted, once_by, only_block, process_at}
 use Rattle.rb_search.specs.declared.joining.Joining.{Joining}
 use Rattle.rb_flow.proofs.Tests.{both_tell, eq_tells}
 use Rattle.std.proofs.lemmas.Option.{slice_get_within}
@@ -184,6 +186,23 @@ module _ (d m : ℕ) where
       by rest false false e f (inr k2) test = rest test k2
       by rest true false e f (inr k2) test = let wrong : ⊥ = cc in absurd wrong
 
+  only_fails : (b : ℕ) (all : List Joining) → only_block d m b all ≡ false
+      → (k : Joining) × Contains all k × (is_of d m k ≡ true) × (k.block ≡ b → ⊥)
+  only_fails b [] test = let wrong : ⊥ = cc in absurd wrong
+  only_fails b (one ∷ all) test = by (only_fails b all) (is_of d m one) (nat_eq one.block b) refl refl test
+    where
+      more : (k : Joining) × Contains all k × (is_of d m k ≡ true) × (k.block ≡ b → ⊥)
+          → (k : Joining) × Contains (one ∷ all) k × (is_of d m k ≡ true) × (k.block ≡ b → ⊥)
+      more r = (r.0, tail_contains one r.0 all r.1, r.2, r.3)
+
+      by : (only_block d m b all ≡ false → (k : Joining) × Contains all k × (is_of d m k ≡ true) × (k.block ≡ b → ⊥))
+          → (x y : Bool) → is_of d m one ≡ x → nat_eq one.block b ≡ y → cond (x && not y) false (only_block d m b all) ≡ false
+          → (k : Joining) × Contains (one ∷ all) k × (is_of d m k ≡ true) × (k.block ≡ b → ⊥)
+      by rest true false e f test = (one, head_contains one all, e, λ same. not_false (nat_eq one.block b) (eq-eqb one.block b same) f)
+      by rest true true e f test = more (rest test)
+      by rest false true e f test = more (rest test)
+      by rest false false e f test = more (rest test)
+
   only_test : (b : ℕ) (all : List Joining) → ((k : Joining) → Contains all k → is_of d m k ≡ true → k.block ≡ b) → only_block d m b all ≡ true
   only_test b [] h = refl
   only_test b (one ∷ all) h =
@@ -273,15 +292,52 @@ groups_test d all (one ∷ groups) h =
 abbrev pub counts : List Group → List ℕ
 counts groups = map (λ (o : Conversation). o.alternates) (map opened groups)
 
+abbrev stood : (c : Code) (t : Table) (d m : ℕ) (j : Joining) (a : ℕ) (s : Stands c t a j) → is_of d m j ≡ true → Joins c t d m j.block
+stood c t d m j a s is =
+    let p = (of_tells d m j).1 is
+    in (s.one, a, s.e, s.block, s.conversation ∙ ap Some p.0, s.instr, s.entry, s.process ∙ p.1)
+
+-- a joining beside one of another block
+pub two_entered : (c : Code) (t : Table) (n a : ℕ) (all : List Joining) (j : Joining) → AreJoinings c t n all → joining_at c t a ≡ Some j
+    → only_block j.conversation j.process j.block all ≡ false → EntersTwo c t
+two_entered c t n a all j are is test =
+    let k = only_fails j.conversation j.process j.block all test
+    in let b = are.only k.0 k.1
+    in record {
+      conversation = j.conversation;
+      process = j.process;
+      block = j.block;
+      other = k.0.block;
+      joins = stood c t j.conversation j.process j a (stands c t a j is) ((of_tells j.conversation j.process j).0 (refl, refl));
+      joins_other = stood c t j.conversation j.process k.0 b.0 (stands c t b.0 k.0 b.1) k.2;
+      differ = λ same. k.3 (sym same);
+    }
+
+-- where a table's rule is kept, the process is a member
+declared : (o : Option Membership) (m : ℕ) → IsMember m (members_of o)
+    → (group : Membership) × (o ≡ Some group) × IsMember m group.members
+declared None m h = absurd h
+declared (Some group) m h = (group, refl, h)
+
+pub two_fail : (c : Code) (groups : List Membership) (counts : List ℕ) (t : Table) → HasTable c groups t → EntersTwo c t
+    → JoinsOnce c groups counts t → ⊥
+two_fail c groups counts t has two once = by two.joins
+  where
+    by : Joins c t two.conversation two.process two.block → ⊥
+    by (one, a, e, block, conversation, instr, at, process) =
+        let d = two.conversation
+        in let fine : Fine c groups t (Enter two.block) a e
+        = subst (λ (o : Option Instr). FineAt c groups t o a e) instr (has.each a e at).fine
+        in let may : MayEnter c groups t (Some d) e
+        = subst (λ (o : Option ℕ). MayEnter c groups t o e) (ap conversation_of block ∙ conversation) fine.4
+        in let member = declared (slice_get groups d) two.process (subst (λ p. IsMember p (members_of (slice_get groups d))) process may.1)
+        in let r = once d two.process member.0 member.1 member.2
+        in two.differ (r.3 two.block two.joins ∙ sym (r.3 two.other two.joins_other))
+
 module _ (c : Code) (t : Table) (groups : List Group) (all : List Joining) (are : AreJoinings c t (length c.instrs) all) where
   joined : (d m b : ℕ) (joins : Joins c t d m b) → Contains all (joining_of d m b joins.0)
   joined d m b joins =
       are.each joins.1 (joining_of d m b joins.0) (slice_get_within c.instrs joins.1 (Enter b) joins.5) (is_joining c t d m b joins)
-
-  abbrev stood : (d m : ℕ) (j : Joining) (a : ℕ) (s : Stands c t a j) → is_of d m j ≡ true → Joins c t d m j.block
-  stood d m j a s is =
-      let p = (of_tells d m j).1 is
-      in (s.one, a, s.e, s.block, s.conversation ∙ ap Some p.0, s.instr, s.entry, s.process ∙ p.1)
 
   pub join_once : groups_join 0 all groups ≡ true → JoinsOnce c (map membership (map opened groups)) (counts groups) t
   join_once test d m group at member =
@@ -294,7 +350,7 @@ module _ (c : Code) (t : Table) (groups : List Group) (all : List Joining) (are 
       in let s = stands c t a.0 once.one a.1
       in (
         once.one.block,
-        stood d m once.one a.0 s once.is,
+        stood c t d m once.one a.0 s once.is,
         g.3 ∙ ap Some (sym once.count ∙ s.count),
         (λ other k. once.only (joining_of d m other k.0) (joined d m other k) ((of_tells d m (joining_of d m other k.0)).0 (refl, refl))),
       )
@@ -315,7 +371,7 @@ module _ (c : Code) (t : Table) (groups : List Group) (all : List Joining) (are 
     joins_here =
         once_test i m g.alternates all (joining_of i m joins_it.0 joins_it.1.0) (joined i m joins_it.0 joins_it.1)
         ((of_tells i m (joining_of i m joins_it.0 joins_it.1.0)).0 (refl, refl))
-        (λ k here same. let a = are.only k here in let s = stands c t a.0 k a.1 in let e = joins_it.3 k.block (stood i m k a.0 s same)
+        (λ k here same. let a = are.only k here in let s = stands c t a.0 k a.1 in let e = joins_it.3 k.block (stood c t i m k a.0 s same)
         in (e, same_count k a.0 s e))
 
   pub join_test : JoinsOnce c (map membership (map opened groups)) (counts groups) t → groups_join 0 all groups ≡ true

@@ -1,7 +1,7 @@
 -- What is weakened is lighter.
-use Rattle.std.proofs.Common.{◌≡◌, ◌⊎◌, inl, inr, ℕ, zero, suc, ◌+◌, ◌<◌, ◌≤◌, List, [], ◌∷◌, length, set, slice_get, Option, Some, None, refl, sym, ap, arith}
-use Rattle.rb_code.specs.SoundCode.Sound.{Entry, IsWeaker, WeakerMode, WeakerOperand, WeakerOperands, Mode, Fresh, MayPut, MayTake, Begun, Free, Changed}
-use Rattle.rb_base.specs.declared.limits.TheConstants.{MOST_OPERANDS}
+use Rattle.std.proofs.Common.{◌≡◌, ◌⊎◌, inl, inr, ℕ, zero, suc, ◌<◌, ◌≤◌, List, [], ◌∷◌, length, Option, Some, None, refl, sym, ap, subst, arith}
+use Rattle.rb_code.specs.SoundCode.Sound.{Entry, IsWeaker, Table, WeakerMode, WeakerOperand, WeakerOperands, Mode, Fresh, MayPut, MayTake, Begun, Free, Changed}
+use Rattle.rb_search.proofs.Searching.{decided}
 use Rattle.rb_search.specs.Weight.{bound, bounds, total, unchanged, weight}
 
 operand_falls : (o p : Option ℕ) → WeakerOperand o p → (p ≡ o) ⊎ (bound p < bound o)
@@ -35,11 +35,11 @@ mode_falls m (MayTake d) h = inl (sym h)
 mode_falls m Begun h = inl (sym h)
 mode_falls m Free h = inl (sym h)
 
-pub weaker_is_lighter : (e g : Entry) → IsWeaker e g → (g ≡ e) ⊎ (weight (Some g) < weight (Some e))
-weaker_is_lighter e g w = by (operands_fall e.operands g.operands w.operands) (mode_falls e.mode g.mode w.mode)
+pub weaker_is_lighter : (most : ℕ) (e g : Entry) → IsWeaker e g → (g ≡ e) ⊎ (weight most (Some g) < weight most (Some e))
+weaker_is_lighter most e g w = by (operands_fall e.operands g.operands w.operands) (mode_falls e.mode g.mode w.mode)
   where
     by : (g.operands ≡ e.operands) ⊎ (bounds g.operands < bounds e.operands) → (g.mode ≡ e.mode) ⊎ (unchanged g.mode < unchanged e.mode)
-        → (g ≡ e) ⊎ (weight (Some g) < weight (Some e))
+        → (g ≡ e) ⊎ (weight most (Some g) < weight most (Some e))
     by (inl o) (inl m) = inl (λ i. record {
       within = w.within i;
       operands = o i;
@@ -66,11 +66,32 @@ one_mode Begun = omega arith
 one_mode Free = omega arith
 one_mode Changed = omega arith
 
-pub first_is_lighter : (e : Entry) → length e.operands ≤ MOST_OPERANDS → weight (Some e) < MOST_OPERANDS + 2
-first_is_lighter e h = let r = few_bounds e.operands in let m = one_mode e.mode in omega arith
+pub first_is_lighter : (most : ℕ) (e : Entry) → length e.operands ≤ most → weight most (Some e) < weight most None
+first_is_lighter most e h = let r = few_bounds e.operands in let m = one_mode e.mode in omega arith
 
-pub total_falls : (all : List (Option Entry)) (a : ℕ) (o p : Option Entry) → slice_get all a ≡ Some o → weight p < weight o
-    → total (set all a p) < total all
-total_falls [] a o p is h = let wrong : ⊥ = cc in absurd wrong
-total_falls (q ∷ qs) zero o p is h = let same : q ≡ o = cc in let e = ap weight same in omega arith
-total_falls (q ∷ qs) (suc a) o p is h = let r = total_falls qs a o p is h in omega arith
+total_kept : (most n : ℕ) (f g : Table) → ((b : ℕ) → b < n → g b ≡ f b) → total most n g ≡ total most n f
+total_kept most zero f g same = refl
+total_kept most (suc n) f g same =
+    let here = ap (weight most) (same n (omega arith))
+    in let below = total_kept most n f g (λ b h. same b (omega arith))
+    in omega arith
+
+pub total_falls : (most n a : ℕ) (f g : Table) → a < n → weight most (g a) < weight most (f a) → ((b : ℕ) → (b ≡ a) ⊎ (g b ≡ f b))
+    → total most n g < total most n f
+total_falls most zero a f g within falls others = absurd (omega (arith, within))
+total_falls most (suc n) a f g within falls others = by (λ h. total_falls most n a f g h falls others) (decided n a) (others n)
+  where
+    below : n ≡ a → (b : ℕ) → b < n → (b ≡ a) ⊎ (g b ≡ f b) → g b ≡ f b
+    below here b h (inl e) = absurd (omega arith)
+    below here b h (inr e) = e
+
+    by : (a < n → total most n g < total most n f) → (n ≡ a) ⊎ (n ≡ a → ⊥) → (n ≡ a) ⊎ (g n ≡ f n) → total most (suc n) g < total most (suc n) f
+    by rest (inl here) o =
+        let kept = total_kept most n f g (λ b h. below here b h (others b))
+        in let lighter = subst (λ b. weight most (g b) < weight most (f b)) (sym here) falls
+        in omega arith
+    by rest (inr k) (inl e) = absurd (k e)
+    by rest (inr k) (inr same) =
+        let r = rest (grind (arith, within, k))
+        in let kept = ap (weight most) same
+        in omega arith

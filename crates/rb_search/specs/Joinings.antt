@@ -3,6 +3,7 @@ use Rattle.std.specs.Prelude.{◌≡◌, ℕ, ◌+◌, ◌<◌, ◌&&◌, nat_eq
 use Rattle.rb_base.specs.declared.names.Group.{Group}
 use Rattle.rb_code.specs.Instructions.Plain.{Block, Code}
 use Rattle.rb_code.specs.SoundCode.Sound.{Entry, Table}
+use Rattle.rb_code.specs.SoundCode.WellFormed.{Joins}
 use Rattle.rb_code.specs.declared.instr.Instr.{Instr}
 use Rattle.rb_code.specs.declared.instr.Instr.TheVariants.{Enter}
 use Rattle.rb_search.specs.declared.joining.Joining.{Joining}
@@ -37,6 +38,16 @@ noted all (Some one) = all ++ one ∷ []
 pub record AreJoinings (c : Code) (t : Table) (n : ℕ) (all : List Joining) : Type 0 where
   pub each : (a : ℕ) (one : Joining) → a < n → joining_at c t a ≡ Some one → Contains all one
   pub only : (one : Joining) → Contains all one → (a : ℕ) × (joining_at c t a ≡ Some one)
+
+-- one process enters two blocks of one conversation
+pub record EntersTwo (c : Code) (t : Table) : Type 0 where
+  pub conversation : ℕ
+  pub process : ℕ
+  pub block : ℕ
+  pub other : ℕ
+  pub joins : Joins c t conversation process block
+  pub joins_other : Joins c t conversation process other
+  pub differ : block ≡ other → ⊥
 
 -- a block of conversation d that process m enters
 abbrev pub is_of : ℕ → ℕ → Joining → Bool

@@ -1,7 +1,6 @@
 -- The laws of joins and of weights.
-use Rattle.std.specs.Prelude.{◌≡◌, ◌⊎◌, ℕ, ◌+◌, ◌<◌, ◌≤◌, List, length, set, slice_get, Option, Some}
-use Rattle.rb_code.specs.SoundCode.Sound.{Entry, IsWeaker}
-use Rattle.rb_base.specs.declared.limits.TheConstants.{MOST_OPERANDS}
+use Rattle.std.specs.Prelude.{◌≡◌, ◌⊎◌, ℕ, ◌<◌, ◌≤◌, length, Some, None}
+use Rattle.rb_code.specs.SoundCode.Sound.{Entry, IsWeaker, Table}
 use Rattle.rb_entries.specs.Join.{joined}
 use Rattle.rb_search.specs.Weight.{total, weight}
 
@@ -14,11 +13,12 @@ JoinIsStrongest = (e f h : Entry) → IsWeaker e h → IsWeaker f h → (g : Ent
 
 -- what is weakened is lighter
 abbrev pub WeakerIsLighter : Type 0
-WeakerIsLighter = (e g : Entry) → IsWeaker e g → (g ≡ e) ⊎ (weight (Some g) < weight (Some e))
+WeakerIsLighter = (most : ℕ) (e g : Entry) → IsWeaker e g → (g ≡ e) ⊎ (weight most (Some g) < weight most (Some e))
 
 abbrev pub FirstIsLighter : Type 0
-FirstIsLighter = (e : Entry) → length e.operands ≤ MOST_OPERANDS → weight (Some e) < MOST_OPERANDS + 2
+FirstIsLighter = (most : ℕ) (e : Entry) → length e.operands ≤ most → weight most (Some e) < weight most None
 
+-- and so is the whole table, where the others stay
 abbrev pub TotalFalls : Type 0
-TotalFalls = (all : List (Option Entry)) (a : ℕ) (o p : Option Entry) → slice_get all a ≡ Some o → weight p < weight o
-    → total (set all a p) < total all
+TotalFalls = (most n a : ℕ) (f g : Table) → a < n → weight most (g a) < weight most (f a) → ((b : ℕ) → (b ≡ a) ⊎ (g b ≡ f b))
+    → total most n g < total most n f

@@ -1,12 +1,13 @@
 //! A step arrives at an address.
 
-ghost use Rattle.std.specs.Prelude.{◌≡◌, ℕ, ◌<◌, [], ◌∷◌, length, set, filter, slice_get, Some, None, true, IfOk, IfErr, Contains};
+ghost use Rattle.std.specs.Prelude.{◌≡◌, ℕ, ◌+◌, ◌<◌, ◌≤◌, [], ◌∷◌, length, set, filter, slice_get, Some, None, true, IfOk, IfErr, Contains};
 ghost use Rattle.rb_search.specs.declared.refusal.Refusal.TheVariants.{Memory};
 ghost use Rattle.rb_code.specs.SoundCode.Sound.{at_address, is_in};
 ghost use Rattle.rb_flow.specs.Flow.{goes};
 ghost use Rattle.rb_flow.specs.Held.{entry_of, IsHeld, HasGrown};
 ghost use Rattle.rb_entries.specs.Parts.{loop_of, loops_of};
 ghost use Rattle.rb_search.specs.Search.{Gains};
+ghost use Rattle.rb_search.specs.Weight.{left};
 ghost use Rattle.rb_search.specs.Found.{found, held_in, pending, IfUnsound, IsWell, NoneTakes};
 ghost use Rattle.rb_flow.specs.declared.lists.Lists.{Lists as AllLists};
 
@@ -33,6 +34,7 @@ pub fn arrive(
     ensures well { IfOk result (λ _. IsWell lists.new cells.new work.new) }
     ensures size { IfOk result (λ _. length cells.new ≡ length cells.old) }
     ensures grown { IfOk result (λ _. HasGrown lists.old lists.new) }
+    ensures left { IfOk result (λ _. left lists.new cells.new work.new ≤ left lists.old cells.old work.old) }
     ensures unsound { IfErr result (λ r. IfUnsound r
         (NoneTakes (length cells.old) (found lists.old cells.old) (goes at (entry_of lists.old entry)))) }
 {
@@ -60,8 +62,11 @@ fn arrive_first(
         (found lists.now cells.old) (pending cells.old) (found lists.now cells.new) (pending cells.new)) }
     ensures well { IfOk result (λ _. IsWell lists.now cells.new work.new) }
     ensures size { IfOk result (λ _. length cells.new ≡ length cells.old) }
+    ensures left { IfOk result (λ _. left lists.now cells.new work.new ≤ left lists.now cells.old work.old) }
     ensures memory { IfErr result (λ r. r ≡ Memory) }
 {
+    // It tells contracts that the list is short enough.
+    let _ = lists.operands.length(entry.operands);
     let entry = staying(at, entry);
     match mark(cells, work, at, entry) {
         Err(_) => Err(Refusal::Memory),
@@ -86,6 +91,7 @@ fn arrive_again(
     ensures well { IfOk result (λ _. IsWell lists.new cells.new work.new) }
     ensures size { IfOk result (λ _. length cells.new ≡ length cells.old) }
     ensures grown { IfOk result (λ _. HasGrown lists.old lists.new) }
+    ensures left { IfOk result (λ _. left lists.new cells.new work.new ≤ left lists.old cells.old work.old) }
     ensures unsound { IfErr result (λ r. IfUnsound r
         (NoneTakes (length cells.old) (found lists.old cells.old) (goes at (entry_of lists.old entry)))) }
 {
@@ -110,6 +116,7 @@ fn mark(cells: &mut Cells, work: &mut Work, at: u32, entry: Held) -> Result<(), 
     ensures cells { IfOk result (λ _. cells.new ≡ set cells.old at (record { entry = Some entry; pending = true })) }
     ensures keeps { IfOk result (λ _. (a : ℕ) → Contains work.old a → Contains work.new a) }
     ensures has { IfOk result (λ _. Contains work.new at) }
+    ensures few { IfOk result (λ _. length work.new ≤ length work.old + 1) }
     ensures memory { IfErr result (λ r. r ≡ Memory) }
 {
     match wait(work, cells.is_pending(at as usize), at) {

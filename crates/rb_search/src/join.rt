@@ -1,10 +1,10 @@
 //! Where two entries meet.
 
-ghost use Rattle.std.specs.Prelude.{◌≡◌, ◌<◌, ◌&&◌, [], ◌∷◌, length, get_or, Option, Some, None, option_map, IfOk, true};
+ghost use Rattle.std.specs.Prelude.{◌≡◌, ◌<◌, ◌&&◌, [], ◌∷◌, length, get_or, Option, Some, None, option_map, IfOk, true, false};
 ghost use Rattle.rb_flow.specs.Held.{entry_of, IsFront, IsHeld, HasGrown};
 ghost use Rattle.rb_entries.specs.Join.{is_alike, joined, met_operands, same_procedure, same_block, same_blocks, same_loop, same_loops, same_within};
 ghost use Rattle.rb_entries.specs.Parts.{block_of, loop_of, loops_of, within_of};
-ghost use Rattle.rb_search.specs.Meeting.{met_of, IsMet, IsThere};
+ghost use Rattle.rb_search.specs.Meeting.{met_of, HasOther, IsKnownBy, IsMet, IsOther, IsThere};
 ghost use Rattle.rb_flow.specs.declared.lists.Lists.{Lists as AllLists};
 
 use rb_base::Memory;
@@ -29,6 +29,7 @@ pub fn meet(lists: &mut Lists, found: Held, entry: Held) -> Result<Met, Memory>
     ensures met { IfOk result (λ met. met_of lists.new found met ≡ joined (entry_of lists.old found) (entry_of lists.old entry)) }
     ensures held { IfOk result (λ met. IsMet lists.new met) }
     ensures grown { IfOk result (λ met. HasGrown lists.old lists.new) }
+    ensures other { IfOk result (λ met. IsOther lists.old lists.new found met) }
 {
     if !are_alike(lists, found, entry) {
         return Ok(Met::Apart);
@@ -41,6 +42,7 @@ pub fn meet(lists: &mut Lists, found: Held, entry: Held) -> Result<Met, Memory>
 
 fn weaker(found: Held, operands: u32, mode: Mode) -> Met
     ensures met { (lists : AllLists) → met_of lists found result ≡ Some (entry_of lists (record found { operands = operands; mode = mode })) }
+    ensures other { HasOther found operands mode result }
     ensures held { (lists : AllLists) → IsHeld lists found → operands < length lists.operands → IsMet lists result }
 {
     if operands == found.operands && are_same_modes(mode, found.mode) {
@@ -56,6 +58,7 @@ fn weaker(found: Held, operands: u32, mode: Mode) -> Met
 fn meet_lists(operands: &mut Stacks, a: u32, b: u32) -> Result<Option<u32>, Memory>
     requires a { a < length operands.old }
     requires b { b < length operands.old }
+    ensures known { IfOk result (λ n. IsKnownBy operands.old operands.new a n) }
     ensures met { IfOk result (λ n. option_map (λ at. get_or operands.new at []) n ≡ met_operands (get_or operands.old a [])
         (get_or operands.old b [])) }
     ensures there { IfOk result (λ n. IsThere operands.new n) }
@@ -83,6 +86,7 @@ fn if_empty(operands: &Stacks, a: u32, b: u32) -> Option<u32>
     requires a { a < length operands.now }
     requires b { b < length operands.now }
     requires empty { get_or operands.now a [] ≡ [] }
+    ensures known { IsKnownBy operands.now operands.now a result }
     ensures met { option_map (λ at. get_or operands.now at []) result ≡ met_operands (get_or operands.now a []) (get_or operands.now b []) }
     ensures there { IsThere operands.now result }
 {
@@ -103,6 +107,8 @@ fn put_top(
     requires a { a < length operands.old }
     requires rest { rest < length operands.old }
     requires is { get_or operands.old a [] ≡ x.top ∷ get_or operands.old x.below [] }
+    requires known { get_or operands.old rest [] ≡ get_or operands.old x.below [] → rest ≡ x.below }
+    ensures known { IfOk result (λ n. IsKnownBy operands.old operands.new a n) }
     ensures put { IfOk result (λ n. option_map (λ at. get_or operands.new at []) n ≡ Some (top ∷ get_or operands.old rest [])) }
     ensures there { IfOk result (λ n. IsThere operands.new n) }
     ensures grown { IfOk result (λ n. IsFront operands.old operands.new) }
@@ -115,7 +121,8 @@ fn put_top(
 }
 
 fn are_same_operands(a: Option<u32>, b: Option<u32>) -> bool
-    ensures { result ≡ true → a ≡ b }
+    ensures same { result ≡ true → a ≡ b }
+    ensures differ { result ≡ false → a ≡ b → ⊥ }
 {
     match a {
         None => match b {

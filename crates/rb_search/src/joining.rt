@@ -1,9 +1,9 @@
 //! Whether each member of a conversation has exactly one block of it, with its number of alternates.
 
-ghost use Rattle.std.specs.Prelude.{◌≡◌, ◌<◌, ◌^◌, length, slice_get, Option, Some, None, IfOk};
+ghost use Rattle.std.specs.Prelude.{◌≡◌, ◌<◌, ◌^◌, length, slice_get, Option, Some, None, IfOk, MatchOption};
 ghost use Rattle.rb_code.specs.Instructions.Plain.{code as plain};
 ghost use Rattle.rb_search.specs.Found.{found};
-ghost use Rattle.rb_search.specs.Joinings.{entered, first_of as first_such, groups_join, joining_at as joining_there, joins_once as has_once, members_join, noted, only_block, AreJoinings};
+ghost use Rattle.rb_search.specs.Joinings.{entered, first_of as first_such, groups_join, joining_at as joining_there, joins_once as has_once, members_join, only_block, AreJoinings, EntersTwo};
 
 use crate::cells::Cells;
 use crate::staying::entry_at;
@@ -21,39 +21,31 @@ pub struct Joining {
     pub alternates: usize,
 }
 
-/// The most of them that are kept. Sound code has no more than its conversations have members.
-const MOST_JOININGS: usize = 65_536;
-
-/// All of them.
+/// All of them; None where a process enters two blocks of one conversation, as no sound code does. So no more are kept than conversations have
+/// members.
 pub fn joinings(
     alloc: Global,
     code: &Code,
     lists: &Lists,
     cells: &Cells,
-) -> Result<Vec<Joining>, Memory>
-    requires few { length code.now.instrs.items < 4294967295 }
+) -> Result<Option<Vec<Joining>>, Memory>
     requires size { length cells.now ≡ length code.now.instrs.items }
-    ensures { IfOk result (λ all. AreJoinings (plain code.now) (found lists.now cells.now) (length code.now.instrs.items) all.items) }
+    ensures { IfOk result (λ each. MatchOption each (EntersTwo (plain code.now) (found lists.now cells.now))
+        (λ all. AreJoinings (plain code.now) (found lists.now cells.now) (length code.now.instrs.items) all.items)) }
 {
     let mut all = Vec::new(alloc);
     for at in 0..cells.len() {
-        note(&mut all, joining_at(code, lists, cells, at))?;
+        match joining_at(code, lists, cells, at) {
+            None => {}
+            Some(one) => {
+                if !is_only_block(&all, one.conversation, one.process, one.block) {
+                    return Ok(None);
+                }
+                all.push(one)?;
+            }
+        }
     }
-    Ok(all)
-}
-
-fn note(all: &mut Vec<Joining>, one: Option<Joining>) -> Result<(), Memory>
-    ensures { IfOk result (λ _. all.new.items ≡ noted all.old.items one) }
-{
-    let one = match one {
-        None => return Ok(()),
-        Some(one) => one,
-    };
-    if all.len() >= MOST_JOININGS {
-        return Err(Memory);
-    }
-    all.push(one)?;
-    Ok(())
+    Ok(Some(all))
 }
 
 // The block of a conversation that is entered at an address.

@@ -8,7 +8,8 @@ pub fn joins_are_strongest()
     ensures strongest { JoinIsStrongest }
 {}
 
-/// What is known at an address is weakened at most 514 times: each time its weight falls, and so does the sum of all weights.
+/// What is known at an address is weakened at most 514 times, as it has at most 512 operands: each time its weight falls, and so does the sum
+/// of all weights.
 pub fn weights_fall()
     ensures weaker { WeakerIsLighter }
     ensures first { FirstIsLighter }

@@ -1,12 +1,13 @@
 //! The search for a table of code.
 
-ghost use Rattle.std.specs.Prelude.{◌≡◌, ℕ, ◌+◌, ◌<◌, [], ◌∷◌, length, set, slice_get, Option, Some, None, option_map, true, false, IfOk, IfErr, IfSome};
+ghost use Rattle.std.specs.Prelude.{◌≡◌, ℕ, ◌+◌, ◌<◌, ◌≤◌, [], ◌∷◌, length, set, slice_get, Option, Some, None, option_map, true, false, IfOk, IfErr, IfSome};
 ghost use Rattle.rb_code.specs.Instructions.Plain.{code as plain, Part};
 ghost use Rattle.rb_conv.specs.Conversations.{memberships, opening};
 ghost use Rattle.rb_code.specs.SoundCode.Sound.{alternates_at};
 ghost use Rattle.rb_flow.specs.Flow.{begins, goes, goes_both, goes_to_each};
 ghost use Rattle.rb_flow.specs.Held.{entry_of, IsHeld};
 ghost use Rattle.rb_search.specs.Search.{Gains, HasGained, HasNoTable, IsBeginning, IsFollowing, IsFound, IsSearching};
+ghost use Rattle.rb_search.specs.Weight.{left};
 ghost use Rattle.rb_flow.specs.Ends.{AreEnds};
 ghost use Rattle.rb_search.specs.Found.{found, held_in, pending, IfUnsound, IsWell, NoneTakes};
 ghost use Rattle.rb_flow.specs.Ways.{steps_of, AreHeld};
@@ -24,10 +25,6 @@ use rb_flow::flow::flow;
 use rb_flow::lists::Lists;
 use rb_flow::way::Way;
 use std::alloc::Global;
-
-/// How often an address is followed at most. What is known at one can be weakened 514 times: once where it is first known, at each of 512
-/// operands, and in its mode. So this is enough for every code of up to 130,000 instructions, and eight times for each of the longest.
-const MOST_ROUNDS: u32 = 67_108_864;
 
 /// What the search has found: a table of the code.
 #[derive(Drop)]
@@ -167,7 +164,7 @@ fn arrive_begun(
     }
 }
 
-/// Follows all addresses that are to be followed.
+/// Follows all addresses that are to be followed. It ends since with each one less is left to do.
 pub fn search(
     code: &Code,
     nested: &Nested,
@@ -184,7 +181,7 @@ pub fn search(
     ensures found { IfOk result (λ _. IsFound (plain code.now) (memberships (opening nested.now)) (found lists.new cells.new)) }
     ensures unsound { IfErr result (λ r. IfUnsound r (HasNoTable (plain code.now) (memberships (opening nested.now)))) }
 {
-    for _ in 0..MOST_ROUNDS {
+    'rounds: loop {
         match follow(code, nested, ends, lists, cells, work) {
             Err(refused) => return Err(refused),
             Ok(more) => {
@@ -194,7 +191,6 @@ pub fn search(
             }
         }
     }
-    Err(Refusal::Memory)
 }
 
 // Follows one address, if one is to be followed.
@@ -215,6 +211,7 @@ fn follow(
     ensures searching { IfOk result (λ _.
         IsSearching (plain code.now) (memberships (opening nested.now)) (found lists.new cells.new) (pending cells.new)) }
     ensures done { IfOk result (λ more. more ≡ false → (a : ℕ) → pending cells.new a ≡ false) }
+    ensures left { IfOk result (λ more. more ≡ true → left lists.new cells.new work.new < left lists.old cells.old work.old) }
     ensures unsound { IfErr result (λ r. IfUnsound r (HasNoTable (plain code.now) (memberships (opening nested.now)))) }
 {
     match work.pop() {
@@ -272,6 +269,7 @@ fn follow_from(
     ensures size { IfOk result (λ _. length cells.new ≡ length code.now.instrs.items) }
     ensures searching { IfOk result (λ _.
         IsSearching (plain code.now) (memberships (opening nested.now)) (found lists.new cells.new) (pending cells.new)) }
+    ensures left { IfOk result (λ _. left lists.new cells.new work.new ≤ left lists.old cells.old work.old) }
     ensures unsound { IfErr result (λ r. IfUnsound r (HasNoTable (plain code.now) (memberships (opening nested.now)))) }
 {
     match flow(code, nested, ends, lists, at, held) {
@@ -297,6 +295,7 @@ fn carry(
         (found lists.old cells.old) (pending cells.old) (found lists.new cells.new) (pending cells.new)) }
     ensures well { IfOk result (λ _. IsWell lists.new cells.new work.new) }
     ensures size { IfOk result (λ _. length cells.new ≡ length cells.old) }
+    ensures left { IfOk result (λ _. left lists.new cells.new work.new ≤ left lists.old cells.old work.old) }
     ensures unsound { IfErr result (λ r. IfUnsound r (NoneTakes (length cells.old) (found lists.old cells.old)
         (steps_of (plain code.now) lists.old way))) }
 {
@@ -335,6 +334,7 @@ fn arrive_both(
         (found lists.old cells.old) (pending cells.old) (found lists.new cells.new) (pending cells.new)) }
     ensures well { IfOk result (λ _. IsWell lists.new cells.new work.new) }
     ensures size { IfOk result (λ _. length cells.new ≡ length cells.old) }
+    ensures left { IfOk result (λ _. left lists.new cells.new work.new ≤ left lists.old cells.old work.old) }
     ensures unsound { IfErr result (λ r. IfUnsound r (NoneTakes (length cells.old) (found lists.old cells.old)
         (goes_both b (entry_of lists.old x) d (entry_of lists.old y)))) }
 {
@@ -361,6 +361,7 @@ fn arrive_each(
         (found lists.old cells.old) (pending cells.old) (found lists.new cells.new) (pending cells.new)) }
     ensures well { IfOk result (λ _. IsWell lists.new cells.new work.new) }
     ensures size { IfOk result (λ _. length cells.new ≡ length cells.old) }
+    ensures left { IfOk result (λ _. left lists.new cells.new work.new ≤ left lists.old cells.old work.old) }
     ensures unsound { IfErr result (λ r. IfUnsound r (NoneTakes (length cells.old) (found lists.old cells.old)
         (goes_to_each (entry_of lists.old x) list.now))) }
 {

@@ -1,6 +1,6 @@
 //! Whether each loop that is begun stays open up to its end.
 
-ghost use Rattle.std.specs.Prelude.{◌≡◌, ◌<◌, ◌+◌, true, false, length, slice_get, Option, option_map};
+ghost use Rattle.std.specs.Prelude.{◌≡◌, ◌<◌, ◌≤◌, ◌+◌, true, false, length, slice_get, Option, option_map};
 ghost use Rattle.rb_code.specs.Instructions.Plain.{code as plain};
 ghost use Rattle.rb_code.specs.SoundCode.Sound.{HasTable, end_of_loop};
 ghost use Rattle.rb_code.specs.SoundCode.WellFormed.{LoopsStayOpen};
@@ -9,6 +9,7 @@ ghost use Rattle.rb_flow.specs.Ends.{AreEnds};
 ghost use Rattle.rb_search.specs.Found.{found, held_in};
 ghost use Rattle.rb_entries.specs.Parts.{loop_of, loops_of};
 ghost use Rattle.rb_search.specs.Watched.{IsLooked, IsWatching, StaysOpen, begun, is_kept as kept, is_open as opened, watched_on};
+ghost use Rattle.rb_flow.specs.declared.ends.TheConstants.{MOST_INSTRUCTIONS};
 
 use crate::cells::Cells;
 use crate::join::is_same_loop;
@@ -27,7 +28,7 @@ pub fn loops_stay_open(
     cells: &Cells,
 ) -> bool
     requires ends { AreEnds (plain code.now) ends.now }
-    requires few { length code.now.instrs.items < 4294967295 }
+    requires few { length code.now.instrs.items ≤ MOST_INSTRUCTIONS }
     requires size { length cells.now ≡ length code.now.instrs.items }
     requires has { HasTable (plain code.now) (memberships (opening nested.now)) (found lists.now cells.now) }
     ensures stay { result ≡ true → LoopsStayOpen (plain code.now) (found lists.now cells.now) }
@@ -49,7 +50,7 @@ fn stay_open(
     counter: u32,
 ) -> bool
     requires ends { AreEnds (plain code.now) ends.now }
-    requires few { length code.now.instrs.items < 4294967295 }
+    requires few { length code.now.instrs.items ≤ MOST_INSTRUCTIONS }
     requires size { length cells.now ≡ length code.now.instrs.items }
     requires has { HasTable (plain code.now) (memberships (opening nested.now)) (found lists.now cells.now) }
     requires counter { counter < 2 }
@@ -86,7 +87,7 @@ fn look(
     requires ends { AreEnds (plain code.now) ends.now }
     requires has { HasTable (plain code.now) (memberships (opening nested.now)) (found lists.now cells.now) }
     requires counter { counter < 2 }
-    requires at { at < 4294967295 }
+    requires at { at < MOST_INSTRUCTIONS }
     requires watching { IsWatching (plain code.now) (found lists.now cells.now) counter at (option_map loop_of watched) }
     ensures { IsLooked result (StaysOpen (plain code.now) (found lists.now cells.now) counter → ⊥)
         (λ next. IsWatching (plain code.now) (found lists.now cells.now) counter (at + 1) (option_map loop_of next)) }
@@ -116,7 +117,7 @@ pub fn entry_at(cells: &Cells, at: usize) -> Option<Held>
 fn watch(code: &Code, ends: &Ends, counter: u32, at: u32, watched: Option<Loop>) -> Option<Loop>
     requires ends { AreEnds (plain code.now) ends.now }
     requires counter { counter < 2 }
-    requires at { at < 4294967295 }
+    requires at { at < MOST_INSTRUCTIONS }
     ensures { option_map loop_of result ≡ watched_on (plain code.now) counter at (option_map loop_of watched) }
 {
     match code.instrs.get(at as usize) {
@@ -138,7 +139,7 @@ fn watch(code: &Code, ends: &Ends, counter: u32, at: u32, watched: Option<Loop>)
 fn begin(code: &Code, ends: &Ends, counter: u32, at: u32, watched: Option<Loop>) -> Option<Loop>
     requires ends { AreEnds (plain code.now) ends.now }
     requires counter { counter < 2 }
-    requires at { at < 4294967295 }
+    requires at { at < MOST_INSTRUCTIONS }
     ensures { option_map loop_of result
         ≡ begun counter at (end_of_loop (plain code.now) counter (at + 1)) (option_map loop_of watched) }
 {

@@ -1,6 +1,6 @@
 //! The addresses that are to be followed.
 
-ghost use Rattle.std.specs.Prelude.{◌≡◌, ℕ, List, [], ◌∷◌, true, map, Contains, IfOk, MatchOption};
+ghost use Rattle.std.specs.Prelude.{◌≡◌, ℕ, ◌+◌, ◌≤◌, List, [], ◌∷◌, true, map, length, Contains, IfOk, MatchOption};
 ghost use Rattle.std.specs.BinaryHeap.{heap_items};
 ghost use Rattle.std.specs.List.Sorted.{IsPermutation};
 ghost use Rattle.rb_search.specs.Waiting.{waiting};
@@ -75,6 +75,7 @@ pub fn wait(work: &mut Work, is_there: bool, at: u32) -> Result<(), Memory>
     requires listed { is_there ≡ true → Contains work.old at }
     ensures keeps { IfOk result (λ _. (a : ℕ) → Contains work.old a → Contains work.new a) }
     ensures has { IfOk result (λ _. Contains work.new at) }
+    ensures few { IfOk result (λ _. length work.new ≤ length work.old + 1) }
 {
     if is_there {
         return Ok(());

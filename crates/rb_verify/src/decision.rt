@@ -1,12 +1,13 @@
 //! Whether code is sound.
 
-ghost use Rattle.std.specs.Prelude.{◌≡◌, ◌<◌, length, map, IfOk, IfErr};
+ghost use Rattle.std.specs.Prelude.{◌≡◌, ◌≤◌, length, map, IfOk, IfErr};
 ghost use Rattle.rb_code.specs.Instructions.Plain.{code as plain};
 ghost use Rattle.rb_code.specs.SoundCode.WellFormed.{IsSound, IsWellFormed};
 ghost use Rattle.rb_conv.specs.Conversations.{Conversation, memberships, opening};
 ghost use Rattle.rb_flow.specs.Ends.{AreEnds};
 ghost use Rattle.rb_search.specs.Found.{found, IfUnsound};
 ghost use Rattle.rb_search.specs.Search.{IsFound};
+ghost use Rattle.rb_flow.specs.declared.ends.TheConstants.{MOST_INSTRUCTIONS};
 
 use rb_base::Nested;
 use rb_code::Code;
@@ -19,10 +20,9 @@ use std::alloc::Global;
 
 /// Decides whether code is sound with its conversations, where its lists are well formed. `Unsound` says that it is not.
 ///
-/// `Memory` is answered for want of memory, and so that no code is costly: for code of more than 8,388,608 instructions; where more than
-/// 16,777,216 operands or open blocks are kept, those of lists with the same ones below counted once; where addresses were followed
-/// 67,108,864 times; for words that 64 bits do not count; and where blocks of conversations are entered at more than 65,536 addresses,
-/// which sound code does not do. Other code may be sound then, but none that a source compiles to comes near.
+/// `Memory` is answered for want of memory, and so that no code is costly: where more than 16,777,216 operands, open blocks or contexts are
+/// kept, those of lists with the same ones below counted once; for words that 64 bits do not count; and for code of more than 4,294,967,295
+/// instructions. Other code may be sound then, but none that a source compiles to comes near.
 pub fn verify(alloc: Global, code: &Code, nested: &Nested) -> Result<(), Refusal>
     requires well { IsWellFormed (plain code.now) (memberships (opening nested.now)) }
     ensures sound { IfOk result (λ _. IsSound (plain code.now) (memberships (opening nested.now))
@@ -50,7 +50,7 @@ fn judge(
 ) -> Result<(), Refusal>
     requires well { IsWellFormed (plain code.now) (memberships (opening nested.now)) }
     requires ends { AreEnds (plain code.now) ends.now }
-    requires few { length code.now.instrs.items < 4294967295 }
+    requires few { length code.now.instrs.items ≤ MOST_INSTRUCTIONS }
     requires size { length known.now.cells ≡ length code.now.instrs.items }
     requires found { IsFound (plain code.now) (memberships (opening nested.now)) (found known.now.lists known.now.cells) }
     ensures sound { IfOk result (λ _. IsSound (plain code.now) (memberships (opening nested.now))
@@ -61,12 +61,17 @@ fn judge(
     if !loops_stay_open(code, nested, ends, &known.lists, &known.cells) {
         return Err(Refusal::Unsound);
     }
-    let all = match joinings(alloc, code, &known.lists, &known.cells) {
-        Err(_) => return Err(Refusal::Memory),
-        Ok(all) => all,
-    };
-    if !members_join_once(nested, &all) {
-        return Err(Refusal::Unsound);
+    match joinings(alloc, code, &known.lists, &known.cells) {
+        Err(_) => Err(Refusal::Memory),
+        Ok(each) => match each {
+            None => Err(Refusal::Unsound),
+            Some(all) => {
+                if members_join_once(nested, &all) {
+                    Ok(())
+                } else {
+                    Err(Refusal::Unsound)
+                }
+            }
+        },
     }
-    Ok(())
 }

@@ -1,4 +1,4 @@
-use Rattle.std.proofs.Common.{sym, ap, ◌∙◌, subst, Option, IfOk}
+use Rattle.std.proofs.Common.{sym, ap, ◌∙◌, subst, Option, IfOk, arith}
 use Rattle.rb_code.specs.Instructions.Plain.{code as plain}
 use Rattle.rb_conv.specs.Conversations.{memberships, opening}
 use Rattle.rb_flow.specs.Flow.{Steps, flow as leads, flow_by, flow_at, is_above}
@@ -7,6 +7,7 @@ use Rattle.rb_flow.specs.Held.{entry_of}
 use Rattle.rb_code.specs.declared.instr.Instr.{Instr}
 use Rattle.rb_flow.specs.declared.way.Way.TheVariants.{Broken}
 use Rattle.rb_flow.proofs.Chosen.{passed_flow, quiet_flow, refused_flow}
+use Rattle.std.proofs.lemmas.Option.{slice_get_within}
 use Rattle.rb_flow.proofs.flow.flow.Goals as goal
 
 pub returns-in-None : goal.returns-in-None
@@ -43,3 +44,9 @@ returns-else-not-is_above c =
     (sym (ap (λ (o : Option Instr). flow_by code groups o at entry) c.in-Some.ensures))
     (passed_flow code lists after (is_above entry.blocks entry.words) c.flow_of.result (leads code groups instr at entry)
     (sym c.is_above.ensures ∙ c.if-not-is_above.false) c.flow_of.ensures)
+
+pub flow_of-requires-clause-at : goal.flow_of-requires-clause-at
+flow_of-requires-clause-at c =
+    let within = slice_get_within (plain c.args.code.now).instrs c.args.at c.in-Some.instr c.in-Some.ensures
+    in let few = c.requires.ends.few
+    in omega arith

@@ -32,6 +32,7 @@ loop-b-preserved c =
       well = c.in-Ok.ensures.well;
       size = c.in-Ok.ensures.size ∙ inv.size;
       grown = grown_on lists now after inv.grown c.in-Ok.ensures.grown;
+      left = let before = inv.left in let now = c.in-Ok.ensures.left in omega arith;
       completes = λ g q k. inv.completes g q (next_more (entry_of lists c.args.x) (entry_of now c.args.x)
           (grown_entry lists now c.args.x inv.grown c.requires.x) c.args.list.now c.loop-b.b-index (omega arith)
           (found now cells) (found after others) (pending cells) (pending others) c.in-Ok.ensures.gains g q k);

@@ -1,4 +1,4 @@
-use Rattle.std.proofs.Common.{◌+◌, false, true, Option, option_map, sym, ap, ◌∙◌, subst}
+use Rattle.std.proofs.Common.{◌+◌, Option, option_map, sym, ap, ◌∙◌, subst}
 use Rattle.rb_code.specs.Instructions.Plain.{code as plain}
 use Rattle.rb_code.specs.SoundCode.Sound.{Loop}
 use Rattle.rb_conv.specs.Conversations.{memberships, opening}
