@@ -204,7 +204,7 @@ def worst():
     yield "a block of 2,000,000 alternates", lambda: alternates(2_000_000), 0
     yield "280,000 conversations in a chain", lambda: chained(280_000), 1
     yield "60,000 blocks of one conversation", lambda: joinings(60_000), 1
-    yield "66,000 blocks of one conversation", lambda: joinings(66_000), 5
+    yield "66,000 blocks of one conversation", lambda: joinings(66_000), 1
     yield "470,000 loops within each other, not reached", lambda: loops_within(470_000), 0
     yield "180,000 variables of one name", lambda: alike(180_000), 0
     yield "500,000 channels of one name", lambda: channels_alike(500_000), 1
