@@ -1,7 +1,7 @@
 pub mod Number
 pub mod Forms
-pub mod Program
 pub mod Guides
+pub mod Program
 pub mod Misasked
 pub mod Commands
 pub mod CommandLine

@@ -13,7 +13,7 @@ pub mod wrong;
 
 pub use asking::{Asked, asked_for};
 pub use guides::{Guide, command_guides, view_guides};
-pub use line::{and_last, none_unless_memory, program_alone, with_commands};
+pub use line::{none_unless_memory, program_alone, with_commands};
 pub use viewing::{View, view_for};
 pub use words::Words;
 pub use wrong::misnamed;
