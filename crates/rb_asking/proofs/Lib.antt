@@ -1,3 +1,5 @@
+pub mod Appended
+pub mod Counted
 pub mod Naming
 pub mod CommandLine
 pub mod ViewLine

@@ -1,29 +1,18 @@
 -- The command line of `rbl` as `clap` is told of it, and what is read from what it finds.
-use Rattle.std.specs.Prelude.{ℕ, nat_eq, cond, List, [], ◌∷◌, codes, Option, None, option_and_then, option_map}
+use Rattle.std.specs.Prelude.{ℕ, nat_eq, cond, List, map, codes, Option, None, option_and_then, option_map}
 use Rattle.std.specs.Cmp.Lexicographic.{pointwise}
 use Rattle.clap.specs.Words.{App, Shape}
 use Rattle.rb_asking.specs.Commands.{Asked, Run, Survive, Plain, Check, Code, Trial, Compile, Load, Session, Domino, Stuck}
 use Rattle.rb_words.specs.Given.{three_given, two_given}
-use Rattle.rb_words.specs.Leaf.{command_with}
 use Rattle.rb_asking.specs.Number.{trial_number}
-use Rattle.rb_asking.specs.Program.{program_with}
+use Rattle.rb_asking.specs.Guides.{command_guides}
+use Rattle.rb_asking.specs.Program.{program_with, shape_of}
 use Rattle.rb_asking.specs.declared.asking.Asked.{Asked as Found}
 use Rattle.rb_asking.specs.declared.asking.Asked.TheVariants as found
 
 -- the commands, each with its words
 abbrev pub commands : List Shape
-commands =
-    command_with (codes "run") (codes "SOURCE" ∷ codes "SCHEDULE" ∷ [])
-    ∷ command_with (codes "survive") (codes "SOURCE" ∷ codes "SCHEDULE" ∷ [])
-    ∷ command_with (codes "plain") (codes "SOURCE" ∷ codes "RECORD" ∷ [])
-    ∷ command_with (codes "check") (codes "SOURCE" ∷ [])
-    ∷ command_with (codes "code") (codes "SOURCE" ∷ [])
-    ∷ command_with (codes "trial") (codes "NUMBER" ∷ [])
-    ∷ command_with (codes "compile") (codes "SOURCE" ∷ [])
-    ∷ command_with (codes "load") (codes "IMAGE" ∷ codes "SCHEDULE" ∷ [])
-    ∷ command_with (codes "session") (codes "SOURCE" ∷ codes "SCHEDULE" ∷ codes "SESSION" ∷ [])
-    ∷ command_with (codes "domino") (codes "HISTORY" ∷ [])
-    ∷ command_with (codes "stuck") (codes "SOURCE" ∷ codes "SCHEDULE" ∷ []) ∷ []
+commands = map shape_of command_guides
 
 -- the program with its commands
 abbrev pub program : App

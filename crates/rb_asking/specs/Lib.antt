@@ -1,6 +1,8 @@
 pub mod Number
 pub mod Forms
+pub mod Guides
 pub mod Program
+pub mod Misasked
 pub mod Commands
 pub mod CommandLine
 pub mod Views

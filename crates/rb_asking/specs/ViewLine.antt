@@ -1,24 +1,17 @@
 -- The command line of `rblview` as `clap` is told of it, and what is read from what it finds.
-use Rattle.std.specs.Prelude.{ℕ, nat_eq, cond, List, [], ◌∷◌, ◌++◌, codes, Option, None, option_and_then, option_map}
+use Rattle.std.specs.Prelude.{ℕ, nat_eq, cond, List, map, codes, Option, None, option_and_then, option_map}
 use Rattle.std.specs.Cmp.Lexicographic.{pointwise}
 use Rattle.clap.specs.Words.{App, Shape}
-use Rattle.rb_asking.specs.Program.{program_with}
+use Rattle.rb_asking.specs.Guides.{view_guides}
+use Rattle.rb_asking.specs.Program.{program_with, shape_of}
 use Rattle.rb_asking.specs.Views.{View, Explains, Explores, Pages, Traces, explored_by}
 use Rattle.rb_words.specs.Given.{three_given, two_given}
-use Rattle.rb_words.specs.Leaf.{command_and_last, command_with}
 use Rattle.rb_asking.specs.declared.viewing.View.{View as Found}
 use Rattle.rb_asking.specs.declared.viewing.View.TheVariants as found
 
--- the commands that take all their words
-abbrev pub drawing : List Shape
-drawing =
-    command_with (codes "explain") (codes "NAME" ∷ [])
-    ∷ command_with (codes "trace") (codes "SOURCE" ∷ codes "SCHEDULE" ∷ [])
-    ∷ command_with (codes "page") (codes "PAGE" ∷ codes "SOURCE" ∷ codes "SCHEDULE" ∷ []) ∷ []
-
--- all commands, each with its words; `explore` may leave out its last
+-- the commands, each with its words
 abbrev pub commands : List Shape
-commands = drawing ++ command_and_last (codes "explore") (codes "SOURCE" ∷ []) (codes "NUMBER") ∷ []
+commands = map shape_of view_guides
 
 -- the program with its commands
 abbrev pub program : App

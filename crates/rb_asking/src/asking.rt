@@ -4,6 +4,7 @@ ghost use Rattle.clap.specs.Words.{app_of, first_of, first_value, found_of, subc
 ghost use Rattle.rb_asking.specs.CommandLine.{asked_given, plainly, program};
 ghost use Rattle.rb_asking.specs.Commands.{asked_of};
 
+use crate::guides::command_guides;
 use crate::line::{none_unless_memory, program_alone, with_commands};
 use crate::number::trial_number;
 use crate::words::Words;
@@ -57,23 +58,7 @@ pub fn asked_for(alloc: Global, words: &Words) -> Result<Option<Asked<'_>>, Memo
 fn command_line<'a>(alloc: Global) -> Result<Command<'a>, AllocError>
     ensures { IfOk result (λ line. app_of line ≡ program) }
 {
-    with_commands(
-        alloc,
-        program_alone(alloc, "rbl"),
-        &[
-            ("run", &["SOURCE", "SCHEDULE"]),
-            ("survive", &["SOURCE", "SCHEDULE"]),
-            ("plain", &["SOURCE", "RECORD"]),
-            ("check", &["SOURCE"]),
-            ("code", &["SOURCE"]),
-            ("trial", &["NUMBER"]),
-            ("compile", &["SOURCE"]),
-            ("load", &["IMAGE", "SCHEDULE"]),
-            ("session", &["SOURCE", "SCHEDULE", "SESSION"]),
-            ("domino", &["HISTORY"]),
-            ("stuck", &["SOURCE", "SCHEDULE"]),
-        ],
-    )
+    with_commands(alloc, program_alone(alloc, "rbl"), command_guides())
 }
 
 // The command that was found, with its words.

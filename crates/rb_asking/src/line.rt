@@ -1,10 +1,11 @@
 //! The command line of a program with commands, as `clap` is told of it.
 ghost use Rattle.std.specs.Prelude.{◌≡◌, IfOk, OnErr, None, map};
 ghost use Rattle.clap.specs.Words.{app_of, with_subcommand};
-ghost use Rattle.rb_words.specs.Leaf.{command_and_last, command_with};
 ghost use Rattle.std.specs.List.{fold};
+ghost use Rattle.rb_asking.specs.Guides.{guide_of};
 ghost use Rattle.rb_asking.specs.Program.{program_alone, shape_of};
 
+use crate::guides::Guide;
 use clap::Command;
 use clap::error::ErrorKind;
 use rb_base::Memory;
@@ -22,18 +23,17 @@ pub fn program_alone<'a>(alloc: Global, name: &'a str) -> Command<'a>
         .subcommand_required(true)
 }
 
-/// The program with these commands more, in their order: each has its name, and takes as many words as are listed with it, which name them.
+/// The program with these commands more, in their order.
 pub fn with_commands<'a>(
     alloc: Global,
     program: Command<'a>,
-    commands: &[(&'a str, &[&'a str])],
+    guides: &'static [Guide],
 ) -> Result<Command<'a>, AllocError>
-    ensures { IfOk result (λ more. app_of more ≡ fold with_subcommand (app_of program.entry) (map shape_of commands.now)) }
+    ensures { IfOk result (λ more. app_of more ≡ fold with_subcommand (app_of program.entry) (map shape_of (map guide_of guides.now))) }
 {
     let mut program = program;
-    for command in commands {
-        let (name, words) = *command;
-        program = and_command(alloc, program, name, words)?;
+    for guide in guides {
+        program = and_command(alloc, program, *guide)?;
     }
     Ok(program)
 }
@@ -42,26 +42,16 @@ pub fn with_commands<'a>(
 fn and_command<'a>(
     alloc: Global,
     program: Command<'a>,
-    name: &'a str,
-    words: &[&'a str],
+    guide: Guide,
 ) -> Result<Command<'a>, AllocError>
-    ensures { IfOk result (λ more. app_of more ≡ with_subcommand (app_of program.entry) (command_with name.entry.now (map (λ w. w.now) words.now))) }
+    ensures { IfOk result (λ more. app_of more ≡ with_subcommand (app_of program.entry) (shape_of (guide_of guide))) }
 {
-    program.subcommand(command_with(alloc, name, words)?)
-}
-
-/// The program with one command more, that takes as many words as these, and another that may be left out.
-pub fn and_last<'a>(
-    alloc: Global,
-    program: Command<'a>,
-    name: &'a str,
-    words: &[&'a str],
-    last: &'a str,
-) -> Result<Command<'a>, AllocError>
-    ensures { IfOk result (λ more. app_of more
-        ≡ with_subcommand (app_of program.entry) (command_and_last name.entry.now (map (λ w. w.now) words.now) last.entry.now)) }
-{
-    program.subcommand(command_and_last(alloc, name, words, last)?)
+    match guide.last {
+        None => program.subcommand(command_with(alloc, guide.name, guide.takes)?),
+        Some(last) => {
+            program.subcommand(command_and_last(alloc, guide.name, guide.takes, last)?)
+        }
+    }
 }
 
 /// Words that are refused for this give no command, unless memory was wanting.

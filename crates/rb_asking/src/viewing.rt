@@ -1,11 +1,11 @@
 //! What the words of `rblview` ask for. They are read with `clap`.
-ghost use Rattle.std.specs.Prelude.{◌≡◌, codes, IfOk, option_and_then, option_map};
+ghost use Rattle.std.specs.Prelude.{◌≡◌, IfOk, option_and_then, option_map};
 ghost use Rattle.clap.specs.Words.{app_of, first_of, first_value, found_of, subcommand_rows_of};
-ghost use Rattle.rb_asking.specs.Program.{program_with};
-ghost use Rattle.rb_asking.specs.ViewLine.{drawing, plainly, program, view_given};
+ghost use Rattle.rb_asking.specs.ViewLine.{plainly, program, view_given};
 ghost use Rattle.rb_asking.specs.Views.{explored_by, view_of};
 
-use crate::line::{and_last, none_unless_memory, program_alone, with_commands};
+use crate::guides::view_guides;
+use crate::line::{none_unless_memory, program_alone, with_commands};
 use crate::number::trial_number;
 use crate::words::Words;
 use clap::{ArgMatches, Command};
@@ -44,23 +44,7 @@ pub fn view_for(alloc: Global, words: &Words) -> Result<Option<View<'_>>, Memory
 fn command_line<'a>(alloc: Global) -> Result<Command<'a>, AllocError>
     ensures { IfOk result (λ line. app_of line ≡ program) }
 {
-    let drawing = with_drawing(alloc)?;
-    and_last(alloc, drawing, "explore", &["SOURCE"], "NUMBER")
-}
-
-// The program with the commands that take all their words.
-fn with_drawing<'a>(alloc: Global) -> Result<Command<'a>, AllocError>
-    ensures { IfOk result (λ line. app_of line ≡ program_with (codes "rblview") drawing) }
-{
-    with_commands(
-        alloc,
-        program_alone(alloc, "rblview"),
-        &[
-            ("explain", &["NAME"]),
-            ("trace", &["SOURCE", "SCHEDULE"]),
-            ("page", &["PAGE", "SOURCE", "SCHEDULE"]),
-        ],
-    )
+    with_commands(alloc, program_alone(alloc, "rblview"), view_guides())
 }
 
 // The command that was found, with its words.

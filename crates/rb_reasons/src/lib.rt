@@ -2,7 +2,10 @@
 #![tactic(auto)]
 
 pub mod laws;
+mod listed;
 mod texts;
+
+pub use listed::all_names;
 
 ghost use Rattle.std.specs.Prelude.{◌≡◌, nat_eq, option_map};
 ghost use Rattle.std.specs.List.{find, prefix_len};

@@ -8,7 +8,7 @@ use Rattle.rb_verdict.specs.Words.{Check, check_of, page_of, trace_of, usage_of}
 use Rattle.rb_tell.specs.Telling.{IsShortEnd}
 use Rattle.rb_tell.proofs.Short.{short_end, small_end}
 use Rattle.rb_show.specs.Explored.{JudgesExplored}
-use Rattle.rb_show.specs.Wished.{TaskEnds, explain_of, explains_of, request_of, task_of}
+use Rattle.rb_show.specs.Wished.{TaskEnds, explain_of, explains_of, task_of}
 use Rattle.rb_show.specs.declared.request.Wish.{Wish}
 use Rattle.rb_show.specs.declared.request.Wish.TheVariants as given
 

@@ -3,7 +3,6 @@ use Rattle.std.proofs.Common.{◌≡◌, ℕ, List, [], Option, sym, subst, ap, 
 use Rattle.rb_world.specs.Kind.{Membership}
 use Rattle.rb_world.specs.Text.{Naming}
 use Rattle.rb_trace.specs.Naming.{naming}
-use Rattle.rb_meaning.specs.Groups.{groups_of}
 use Rattle.rb_code.specs.Instructions.Plain.{code}
 use Rattle.rb_code.specs.SoundCode.WellFormed.{IsSound}
 use Rattle.rb_recovery.specs.Worlds.{counts_of}
@@ -11,7 +10,6 @@ use Rattle.rb_conv.specs.Conversations.{memberships, opening}
 use Rattle.rb_explore.specs.System.{IsLawful}
 use Rattle.rb_outcomes.specs.Programs.{system_of_code}
 use Rattle.rb_outcomes.proofs.Lawful.{code_lawful}
-use Rattle.rb_prepare.specs.Prepared.{IsPrepared}
 use Rattle.rb_prepare.specs.declared.preparing.Prepared.{Prepared}
 use Rattle.rb_hall.specs.Judgement.{Judgement}
 use Rattle.rb_verdict.specs.Judging.{first_accepted}

@@ -50,13 +50,13 @@ wished_task (Some (Traces source schedule)) = (Carries (trace_of source schedule
 wished_task (Some (Pages page source schedule)) = (Carries (page_of page source schedule), refl)
 wished_task (Some (Explores source number)) = (Searches source number, refl)
 
-pub wished_without_memory : (view : Option View) (files : Option (List File)) (starts : List Start) (r f : Faults) (w : Option (List ℕ))
+pub wished_without_memory : (view : Option View) (wrong : List ℕ) (files : Option (List File)) (starts : List Start) (r f : Faults) (w : Option (List ℕ))
     (told : Option (List ℕ)) (faults : Faults)
-    → WishedEnds view
+    → WishedEnds view wrong
     (record { files = files; starts = starts; read_faults = r; written = w; write_faults = went_well f })
     (record { files = files; starts = starts; read_faults = r; written = w; write_faults = f })
     told told faults faults 5 Nothing
-wished_without_memory view files starts r f w told faults =
+wished_without_memory view wrong files starts r f w told faults =
     let (task, is) = wished_task view in
     let request = request_of task in (
       task,

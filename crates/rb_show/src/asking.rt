@@ -6,16 +6,18 @@ ghost use Rattle.rb_asking.specs.Views.{view_of};
 ghost use Rattle.rb_asking.specs.ViewLine.{plainly};
 ghost use Rattle.rb_reasons.specs.Names.{names};
 ghost use Rattle.rb_verdict.specs.Words.{usage_of};
+ghost use Rattle.rb_show.specs.Entrance.{view_wrong};
 ghost use Rattle.rb_show.specs.Wished.{Carries, Explained, IsWished, task_of, usage_line};
 
 use crate::explore::Explore;
 use crate::page::Page;
 use crate::request::Wish;
 use crate::trace::Trace;
-use rb_asking::{View, Words, view_for};
+use rb_asking::misasked::misasked;
+use rb_asking::{View, Words, misnamed, view_for, view_guides};
 use rb_base::Memory;
 use rb_commands::saying::Saying;
-use rb_reasons::reason_of;
+use rb_reasons::{all_names, reason_of};
 use std::alloc::Global;
 
 /// What is carried out for these words: what they ask for; or the line that shows the commands, where they ask for nothing, or for what a name of
@@ -62,5 +64,17 @@ fn explained(name: &str) -> Wish<'static>
     match reason_of(name.as_bytes()) {
         Some(text) => Wish::Explain(Saying { text }),
         None => usage(),
+    }
+}
+
+/// What was wrong with these words, where they are shown the commands.
+pub fn view_wrong(alloc: Global, words: &Words) -> Result<Vec<u8>, Memory>
+    ensures { IfOk result (λ told. told.items ≡ view_wrong words.now (view_of words.now)) }
+{
+    match view_for(alloc, words)? {
+        Some(View::Explain(name)) => {
+            misnamed(alloc, "fault or cause", "rblview", all_names(), name)
+        }
+        _ => misasked(alloc, view_guides(), "rblview", words),
     }
 }

@@ -1,5 +1,7 @@
 -- How a program ends: its exit status, what stands at its sink, and what standard error is told.
-use Rattle.std.specs.Prelude.{◌≡◌, ℕ, List, [], slice_get, Option, None}
+use Rattle.std.specs.Prelude.{◌≡◌, ℕ, List, [], slice_get, codes, Option, Some, None}
+use Rattle.rb_asking.specs.Guides.{command_guides}
+use Rattle.rb_asking.specs.Misasked.{misasked_text}
 use Rattle.rb_outside.specs.Outside.{Faults}
 use Rattle.rb_hall.specs.Answers.{Scene}
 use Rattle.rb_hall.specs.Ending.{EndsBehind}
@@ -7,10 +9,10 @@ use Rattle.rb_hall.specs.Judgement.{Explaining, Wants}
 use Rattle.rb_hall.specs.declared.outcome.Outcome.{Outcome}
 use Rattle.rb_hall.specs.declared.outcome.Outcome.TheVariants as out
 use Rattle.rb_verdict.specs.Judging.{JudgesWithin, TakesWhileWriting}
-use Rattle.rb_verdict.specs.Words.{Command, Usage, Request}
+use Rattle.rb_verdict.specs.Words.{Command, Usage, Request, request_for}
 use Rattle.rb_commands.specs.Requests.{explains_of}
 use Rattle.rb_commands.specs.declared.why.Why.{Why}
-use Rattle.rb_tell.specs.Telling.{Tells}
+use Rattle.rb_tell.specs.Telling.{TellsEnd}
 use Rattle.rb_tell.specs.declared.end.Telling.{Telling}
 
 -- the exit status where what was to be written is written: 2 for the line that shows the commands, which comes where words ask for nothing
@@ -32,16 +34,25 @@ file_of request (out.Refused refusal) = slice_get request.files refusal.number
 file_of request (out.ReadFault number) = slice_get request.files number
 file_of request outcome = None
 
--- A program that carries out this request ends so: there is one end with this exit status; it has its cause behind the buffer, comes where
+-- what was wrong with the words, where they ask for nothing
+abbrev pub wrong_in : Command → List ℕ → Option (List ℕ)
+wrong_in (Usage line) wrong = Some wrong
+wrong_in command wrong = None
+
+-- A program that carries out this request ends so, where this is what was wrong with words that ask for nothing: there is one end with this exit status; it has its cause behind the buffer, comes where
 -- nothing outside stands in the way, and is told on standard error.
-pub record ProgramEndsSo (explains : Command → Explaining Why) (program : List ℕ) (request : Request) (old new : Scene) (told_old told_new : Option (List ℕ))
+pub record ProgramEndsSo (explains : Command → Explaining Why) (program : List ℕ) (request : Request) (wrong : List ℕ) (old new : Scene) (told_old told_new : Option (List ℕ))
     (told_before told_after : Faults) (number : ℕ) (telling : Telling) : Type 0 where
   pub outcome : Outcome Why
   pub is : number ≡ number_of request.command outcome
   pub ends : EndsBehind (JudgesWithin request) (explains request.command) request.files (TakesWhileWriting request.command) old new outcome
   pub untouched : request.files ≡ [] → (new.starts ≡ old.starts) × (new.read_faults ≡ old.read_faults)
-  pub tells : Tells program (file_of request outcome) outcome told_old told_new told_before told_after telling
+  pub tells : TellsEnd program (wrong_in request.command wrong) (file_of request outcome) outcome told_old told_new told_before told_after telling
 
 -- so a program ends whose commands are those of `rbl`
-abbrev pub ProgramEnds : List ℕ → Request → Scene → Scene → Option (List ℕ) → Option (List ℕ) → Faults → Faults → ℕ → Telling → Type 0
+abbrev pub ProgramEnds : List ℕ → Request → List ℕ → Scene → Scene → Option (List ℕ) → Option (List ℕ) → Faults → Faults → ℕ → Telling → Type 0
 ProgramEnds = ProgramEndsSo explains_of
+
+-- and so `rbl` ends for these words
+abbrev pub RblEnds : List (List ℕ) → Scene → Scene → Option (List ℕ) → Option (List ℕ) → Faults → Faults → ℕ → Telling → Type 0
+RblEnds words = ProgramEnds (codes "rbl") (request_for words) (misasked_text command_guides (codes "rbl") words)

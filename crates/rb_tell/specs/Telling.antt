@@ -57,3 +57,13 @@ Tells program None (out.ReadFault number) old new before after telling = IsUntol
 Tells program file out.WriteFault old new before after telling = IsTold (IsUnwritten program) old new before after telling
 Tells program file out.Done old new before after telling = IsUntold old new before after telling
 Tells program file out.Memory old new before after telling = IsUntold old new before after telling
+
+-- Of what was written nothing is told, but for words that ask for nothing what was wrong with them.
+abbrev pub TellsDone : Option (List ℕ) → Option (List ℕ) → Option (List ℕ) → Faults → Faults → Telling → Type 0
+TellsDone None old new before after telling = IsUntold old new before after telling
+TellsDone (Some wrong) old new before after telling = IsTold (λ bytes. bytes ≡ wrong) old new before after telling
+
+-- what is told of an end, where this was wrong with the words
+abbrev pub TellsEnd : List ℕ → Option (List ℕ) → Option Wants → Outcome Why → Option (List ℕ) → Option (List ℕ) → Faults → Faults → Telling → Type 0
+TellsEnd program wrong file out.Done old new before after telling = TellsDone wrong old new before after telling
+TellsEnd program wrong file outcome old new before after telling = Tells program file outcome old new before after telling

@@ -76,8 +76,8 @@ fn tell_reason<E: Sink>(
     put_told(reason_of(alloc, file.as_bytes(), refusal), err)
 }
 
-// Puts a text, if memory was there for it.
-fn put_told<E: Sink>(told: Result<Vec<u8>, Memory>, err: &mut E) -> Telling
+/// Puts a text, if memory was there for it.
+pub fn put_told<E: Sink>(told: Result<Vec<u8>, Memory>, err: &mut E) -> Telling
     ensures { PutsTold told (E.written err.old) (E.written err.new) (E.faults err.old) (E.faults err.new) result }
 {
     let Ok(text) = told else {

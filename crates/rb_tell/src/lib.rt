@@ -8,7 +8,7 @@ pub mod given;
 pub mod host;
 pub mod reason;
 
-pub use end::{End, Telling, tell};
+pub use end::{End, Telling, put_told, tell};
 pub use entrance::{Left, hall};
 pub use given::words_given;
 pub use host::Blamed;

@@ -5,4 +5,4 @@ pub mod leaf;
 pub mod plain;
 
 pub use leaf::{command_and_last, command_with};
-pub use plain::are_plain;
+pub use plain::{are_plain, is_plain};

@@ -15,7 +15,8 @@ pub fn are_plain(words: &[String]) -> bool
     true
 }
 
-fn is_plain(word: &str) -> bool
+/// Whether a word is not empty and has no `-` at its front.
+pub fn is_plain(word: &str) -> bool
     ensures { result ≡ is_plain_word word.now }
 {
     match word.as_bytes() {

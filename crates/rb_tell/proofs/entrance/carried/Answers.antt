@@ -5,7 +5,10 @@ use Rattle.rb_hall.specs.Judgement.{Wants}
 use Rattle.rb_verdict.specs.Judging.{TakesWhileWriting}
 use Rattle.rb_commands.specs.Asked.{asked}
 use Rattle.rb_commands.specs.Requests.{explains_of}
-use Rattle.rb_tell.specs.Telling.{Tells}
+use Rattle.rb_asking.specs.Guides.{command_guides}
+use Rattle.rb_asking.specs.Misasked.{misasked_text}
+use Rattle.rb_tell.specs.Entrance.{wrong_in}
+use Rattle.rb_tell.specs.Telling.{TellsEnd}
 use Rattle.rb_tell.proofs.Files.{has_its_files}
 use Rattle.rb_tell.proofs.Short.{short_end}
 use Rattle.rb_tell.proofs.entrance.carried.Goals as goal
@@ -16,7 +19,7 @@ returns-clause-ends g c =
     let request = asked given in
     let carried = c.command-carried in
     let outcome = carried.result.outcome in
-    let told = c.tell-told in
+    let told = c.tell_end-told in
     let old = scene_of g.F.Shelf.files g.F.Shelf.starts g.F.Shelf.faults g.S.Sink.written (λ sink. went_well (g.S.Sink.faults sink)) c.args.shelf.now
     c.args.out in
     let new = scene_of g.F.Shelf.files g.F.Shelf.starts g.F.Shelf.faults g.S.Sink.written g.S.Sink.faults carried.new.shelf carried.result.sink in
@@ -29,7 +32,7 @@ returns-clause-ends g c =
         ap g.F.Shelf.faults (carried.ensures.untouched none),
       );
       tells = subst
-          (λ (file : Option Wants). Tells (codes "rbl") file outcome (g.E.Sink.written c.args.err.now) (g.E.Sink.written told.new.err)
+          (λ (file : Option Wants). TellsEnd (codes "rbl") (wrong_in request.command (misasked_text command_guides (codes "rbl") c.args.words.now)) file outcome (g.E.Sink.written c.args.err.now) (g.E.Sink.written told.new.err)
           (g.E.Sink.faults c.args.err.now) (g.E.Sink.faults told.new.err) told.result)
           c.file_in-file.ensures
           (told.ensures (short_end request (has_its_files given) (explains_of request.command) (TakesWhileWriting request.command) old new outcome
