@@ -3,11 +3,12 @@
 Each command is tried with each of its files in turn: without that file, with a folder in its place, and with one that is refused.
 """
 import os
+import subprocess
 import unittest
 
 from .commands import FILES, commands
 from .limit_runs import USAGE
-from .shared import MOST, MOST_OF_IMAGE, VIEWS, Cases, answer, answer_over, c_compiler, folder_of, hook, hooked, program
+from .shared import MOST, MOST_OF_IMAGE, PATIENCE, ROOT, VIEWS, Cases, answer, answer_over, c_compiler, folder_of, hook, hooked, program
 
 # A file of each kind that is refused, and the fault with its place.
 REFUSED = {
@@ -20,12 +21,41 @@ REFUSED = {
     "image": ("no image", "I1", ""),
 }
 USAGES = {"rbl": USAGE, "rblview": "usage: rblview explain NAME | trace SOURCE SCHEDULE | page PAGE SOURCE SCHEDULE | explore SOURCE [K]\n"}
-# Words that are no command of a program.
+# Words that are no command of a program, and the first line that it tells of them.
 UNKNOWN = {
-    "rbl": ["", "rum source schedule", "run source", "run source schedule schedule", "trace source schedule", "page page source schedule", "explain S1",
-            "explore source", "--help"],
-    "rblview": ["", "rum source schedule", "trace source", "trace source schedule schedule", "page page source", "explain", "explain Z9",
-                "run source schedule", "explore", "explore source one", "explore source 1 1", "--help"],
+    "rbl": {
+        "": "rbl: a command is missing",
+        "rum source schedule": "rbl: there is no command `rum`; did you mean `run`?",
+        "explain S1": "rbl: there is no command `explain`; did you mean `plain`?",
+        "trace source schedule": "rbl: there is no command `trace`",
+        "page page source schedule": "rbl: there is no command `page`",
+        "explore source": "rbl: there is no command `explore`",
+        "run source": "rbl: `run` takes SOURCE and SCHEDULE; SCHEDULE is missing",
+        "session source": "rbl: `session` takes SOURCE, SCHEDULE and SESSION; SCHEDULE and SESSION are missing",
+        "run source schedule schedule": "rbl: `run` takes SOURCE and SCHEDULE, and no more",
+        "check source source": "rbl: `check` takes SOURCE, and no more",
+        "check --source": "rbl: `--source` is no word for a command",
+        "--version": "rbl: `--version` is no word for a command",
+        "trial x": "rbl: `trial` takes a NUMBER of at most twenty digits and 64 bits",
+        "--help": "  run SOURCE SCHEDULE: what a program prints, turn by turn over a schedule",
+        "-h trial": "  trial NUMBER: a run of a program that is made from a number",
+        "help rum": "rbl: there is no command `rum`; did you mean `run`?",
+    },
+    "rblview": {
+        "": "rblview: a command is missing",
+        "rum source schedule": "rblview: there is no command `rum`",
+        "run source schedule": "rblview: there is no command `run`",
+        "trace source": "rblview: `trace` takes SOURCE and SCHEDULE; SCHEDULE is missing",
+        "trace source schedule schedule": "rblview: `trace` takes SOURCE and SCHEDULE, and no more",
+        "page page source": "rblview: `page` takes PAGE, SOURCE and SCHEDULE; SCHEDULE is missing",
+        "explain": "rblview: `explain` takes NAME; NAME is missing",
+        "explain Z9": "rblview: there is no fault or cause `Z9`",
+        "explain overun": "rblview: there is no fault or cause `overun`; did you mean `overrun`?",
+        "explore": "rblview: `explore` takes SOURCE and perhaps NUMBER; SOURCE is missing",
+        "explore source one": "rblview: `explore` takes a NUMBER of at most twenty digits and 64 bits",
+        "explore source 1 1": "rblview: `explore` takes SOURCE and perhaps NUMBER, and no more",
+        "--help": "  explain NAME: what a fault or a cause means",
+    },
 }
 # Words of which one is no text.
 NO_TEXTS = {"rbl": [[b"\xff"], ["check", b"\xff"], [b"run\xc3", "source", "schedule"], ["session", "source", "schedule", b"a\xed\xa0\x80"]],
@@ -101,10 +131,27 @@ def without_memory(words, files):
         return differs(answer(words, folder, environment=hooked(refuse="memory", refused=0)), 5, b"", b"")
 
 
-def misunderstood(name, words):
+def misunderstood(name, words, line):
     """What is wrong with the answer of a program to words that are no command of its own, whatever there may be of files."""
     with folder_of(FILES) as folder:
-        return differs(answer(words, folder, program(name)), 2, USAGES[name].encode(), b"")
+        return differs(answer(words, folder, program(name)), 2, USAGES[name].encode(), f"{line}\n".encode())
+
+
+def examples(name):
+    """The lines for a shell that the help of a program shows."""
+    with folder_of({}) as folder:
+        told = answer(["help"], folder, program(name)).err.decode()
+    return [line.strip() for line in told.split("\n") if line.startswith("      ")]
+
+
+def unrunnable(line):
+    """What is wrong where an example does not run."""
+    named = "".join(f'{name}() {{ "{program(name)}" "$@"; }}; ' for name in USAGES)
+    with folder_of({}) as folder:
+        for each in ("examples", "view"):
+            os.symlink(os.path.join(ROOT, each), os.path.join(folder, each))
+        ran = subprocess.run(["bash", "-o", "pipefail", "-c", named + line], cwd=folder, capture_output=True, timeout=PATIENCE, check=False)
+    return None if (ran.returncode, ran.stderr) == (0, b"") else f"status {ran.returncode}, {ran.stderr[:100]!r}"
 
 
 def misread(name, words):
@@ -142,7 +189,12 @@ class Statuses(Cases):
 
     def test_unknown(self):
         for name, lines in UNKNOWN.items():
-            self.each([(f"{name} {line}", name, line.split()) for line in lines], misunderstood)
+            self.each([(f"{name} {words}", name, words.split(), line) for words, line in lines.items()], misunderstood)
+
+    def test_examples(self):
+        """The help of each program has an example of each command, and each runs."""
+        self.assertEqual([len(examples(name)) for name in ("rbl", "rblview")], [11, 4])
+        self.each([(line, line) for name in USAGES for line in examples(name)], unrunnable)
 
     def test_no_texts(self):
         for name, lines in NO_TEXTS.items():

@@ -1,12 +1,12 @@
 -- How a program ends over files in memory, and what it leaves in places of so many bytes.
-use Rattle.std.specs.Prelude.{◌≡◌, ℕ, List, [], codes, Option, Some}
+use Rattle.std.specs.Prelude.{◌≡◌, ℕ, List, [], Option, Some}
 use Rattle.rb_outside.specs.Outside.{Faults, File, no_faults, went_well}
 use Rattle.rb_hall.specs.Answers.{Scene}
 use Rattle.rb_asking.specs.Views.{view_of}
 use Rattle.rb_verdict.specs.Words.{request_for}
-use Rattle.rb_tell.specs.Entrance.{ProgramEnds}
+use Rattle.rb_tell.specs.Entrance.{RblEnds}
 use Rattle.rb_tell.specs.declared.end.Telling.{Telling}
-use Rattle.rb_show.specs.Entrance.{WishedEnds}
+use Rattle.rb_show.specs.Entrance.{RblviewEnds}
 use Rattle.rb_show.specs.Wished.{Carries, IsWished, Task}
 use Rattle.rb_web.specs.Kept.{FailsWhenFull, KeptBytes, KeptTexts, no_fault}
 use Rattle.rb_web.specs.declared.over_texts.Program.{Program}
@@ -19,8 +19,8 @@ Ending = Scene → Scene → Option (List ℕ) → Option (List ℕ) → Faults 
 
 -- how each program ends for these words, over any shelf and any sinks
 abbrev pub EndsOf : Program → List (List ℕ) → Ending
-EndsOf programs.Rbl words = ProgramEnds (codes "rbl") (request_for words)
-EndsOf programs.Rblview words = WishedEnds (view_of words)
+EndsOf programs.Rbl words = RblEnds words
+EndsOf programs.Rblview words = RblviewEnds words
 
 -- what these words ask each program for
 abbrev pub IsAsked : Program → List (List ℕ) → Task → Type 0
