@@ -5,12 +5,12 @@ pub mod laws;
 mod listed;
 mod texts;
 
-pub use listed::all_names;
-
 ghost use Rattle.std.specs.Prelude.{◌≡◌, nat_eq, option_map};
 ghost use Rattle.std.specs.List.{find, prefix_len};
 ghost use Rattle.std.specs.Cmp.Lexicographic.{pointwise};
 ghost use Rattle.rb_reasons.specs.Names.{name_of, is_of_name, names};
+
+pub use listed::all_names;
 
 /// The text of a fault or a cause; `None` where the word names neither. A text begins with its name and a colon.
 pub fn reason_of(name: &[u8]) -> Option<&'static [u8]>

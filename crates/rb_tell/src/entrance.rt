@@ -110,12 +110,7 @@ fn tell_end<E: Sink>(
 }
 
 // Tells what was wrong with words that ask for nothing.
-fn tell_done<E: Sink>(
-    alloc: Global,
-    request: &Request<'_>,
-    words: &Words,
-    err: &mut E,
-) -> Telling
+fn tell_done<E: Sink>(alloc: Global, request: &Request<'_>, words: &Words, err: &mut E) -> Telling
     ensures { TellsDone (wrong_in (asked request.now).command (misasked_text command_guides (codes "rbl") words.now))
         (E.written err.old) (E.written err.new) (E.faults err.old) (E.faults err.new) result }
 {
