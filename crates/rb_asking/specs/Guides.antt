@@ -33,7 +33,8 @@ command_guides =
     (codes "rbl survive examples/step1.rbl examples/step1.schedule")
     ∷ guide (codes "plain") (codes "SOURCE" ∷ codes "RECORD" ∷ []) (codes "what those turns do by themselves, where nothing is undone")
     (codes "rbl plain examples/step1.rbl examples/step1.record")
-    ∷ guide (codes "check") (codes "SOURCE" ∷ []) (codes "whether a program is right, and what it has") (codes "rbl check examples/step1.rbl")
+    ∷ guide (codes "check") (codes "SOURCE" ∷ []) (codes "whether a program is accepted, and else its first fault")
+    (codes "rbl check examples/step1.rbl")
     ∷ guide (codes "code") (codes "SOURCE" ∷ []) (codes "the code that a program is compiled to") (codes "rbl code examples/step1.rbl")
     ∷ guide (codes "trial") (codes "NUMBER" ∷ []) (codes "a run of a program that is made from a number") (codes "rbl trial 7")
     ∷ guide (codes "compile") (codes "SOURCE" ∷ []) (codes "a program as an image") (codes "rbl compile examples/step1.rbl > step1.image")
@@ -43,7 +44,7 @@ command_guides =
     (codes "rbl session examples/step3.rbl examples/step3.schedule examples/step3.session")
     ∷ guide (codes "domino") (codes "HISTORY" ∷ []) (codes "how far processes go back that have no conversations")
     (codes "rbl domino examples/domino.history")
-    ∷ guide (codes "stuck") (codes "SOURCE" ∷ codes "SCHEDULE" ∷ []) (codes "how each process stands at the end of a run, and who waits for whom")
+    ∷ guide (codes "stuck") (codes "SOURCE" ∷ codes "SCHEDULE" ∷ []) (codes "whether anything can still go on after a run, and who waits for what")
     (codes "rbl stuck examples/deadlock.rbl examples/deadlock.schedule") ∷ []
 
 -- the commands of `rblview`

@@ -82,7 +82,8 @@ takes_words program guide =
 -- that it has too few words, of which these are missing
 unfoldable pub too_few : List ℕ → Guide → List (List ℕ) → List ℕ
 too_few program guide missing =
-    concat (takes_words program guide ∷ codes "; " ∷ listed missing ∷ cond (length missing == 1) (codes " is missing\n") (codes " are missing\n") ∷ [])
+    concat (takes_words program guide ∷ codes "; " ∷ listed missing
+    ∷ cond (length missing == 1) (codes " is missing\n") (codes " are missing\n") ∷ [])
 
 -- that it has too many
 unfoldable pub too_many : List ℕ → Guide → List ℕ

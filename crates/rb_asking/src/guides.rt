@@ -43,7 +43,7 @@ static COMMANDS: [Guide; 11] = [
         name: "check",
         takes: &["SOURCE"],
         last: None,
-        does: "whether a program is right, and what it has",
+        does: "whether a program is accepted, and else its first fault",
         example: "rbl check examples/step1.rbl",
     },
     Guide {
@@ -92,7 +92,7 @@ static COMMANDS: [Guide; 11] = [
         name: "stuck",
         takes: &["SOURCE", "SCHEDULE"],
         last: None,
-        does: "how each process stands at the end of a run, and who waits for whom",
+        does: "whether anything can still go on after a run, and who waits for what",
         example: "rbl stuck examples/deadlock.rbl examples/deadlock.schedule",
     },
 ];

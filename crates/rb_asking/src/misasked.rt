@@ -111,7 +111,8 @@ fn push_command(
 ) -> Result<(), Memory>
     ensures { OnOk result
         (told.new.items ≡ told.old.items
-        ++ command_text (map guide_of guides.now) program.now name.now (map string_bytes words.now) (guide_named (map guide_of guides.now) name.now)) }
+        ++ command_text (map guide_of guides.now) program.now name.now (map string_bytes words.now)
+        (guide_named (map guide_of guides.now) name.now)) }
 {
     match guide_named(guides, name) {
         None => push_no_command(alloc, told, guides, program, name),

@@ -18,15 +18,16 @@ abbrev pub view_wrong : List (List ℕ) → Option View → List ℕ
 view_wrong words (Some (Explains name)) = misnamed_text (codes "fault or cause") (codes "rblview") names name
 view_wrong words view = misasked_text view_guides (codes "rblview") words
 
--- So `rblview` ends that carries this out, where this is what was wrong with words that are shown the commands: there is one end with this exit status; it has its cause behind the buffer, comes where nothing outside
--- stands in the way, and is told on standard error.
-pub record ViewEnds (task : Task) (wrong : List ℕ) (old new : Scene) (told_old told_new : Option (List ℕ)) (told_before told_after : Faults) (number : ℕ)
-    (telling : Telling) : Type 0 where
+-- So `rblview` ends that carries this out, where this is what was wrong with words that are shown the commands: there is one end with this exit
+-- status; it has its cause behind the buffer, comes where nothing outside stands in the way, and is told on standard error.
+pub record ViewEnds (task : Task) (wrong : List ℕ) (old new : Scene) (told_old told_new : Option (List ℕ)) (told_before told_after : Faults)
+    (number : ℕ) (telling : Telling) : Type 0 where
   pub outcome : Outcome Why
   pub is : number ≡ number_of (request_of task).command outcome
   pub ends : TaskEnds task old new outcome
   pub untouched : (request_of task).files ≡ [] → (new.starts ≡ old.starts) × (new.read_faults ≡ old.read_faults)
-  pub tells : TellsEnd (codes "rblview") (wrong_in (request_of task).command wrong) (file_of (request_of task) outcome) outcome told_old told_new told_before told_after telling
+  pub tells : TellsEnd (codes "rblview") (wrong_in (request_of task).command wrong) (file_of (request_of task) outcome) outcome
+      told_old told_new told_before told_after telling
 
 -- so it ends for words that ask for this
 abbrev pub WishedEnds : Option View → List ℕ → Scene → Scene → Option (List ℕ) → Option (List ℕ) → Faults → Faults → ℕ → Telling → Type 0

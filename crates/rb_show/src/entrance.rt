@@ -23,9 +23,9 @@ use std::alloc::Global;
 const NO_MEMORY: u8 = 5;
 
 /// Carries out what the words ask for over a shelf and a sink, tells on the other sink why a text was refused, from the bytes that were read of
-/// it, which file could not be read, that nothing could be written, or what was wrong with words that ask for nothing; and gives the exit status: 0 where the text was written, 1 where a text is
-/// refused, 2 where the words ask for nothing, 3 where a file can't be read, 4 where the text can't be written, 5 where memory is wanting.
-/// Nothing may have been written to the first sink before.
+/// it, which file could not be read, that nothing could be written, or what was wrong with words that ask for nothing; and gives the exit status:
+/// 0 where the text was written, 1 where a text is refused, 2 where the words ask for nothing, 3 where a file can't be read, 4 where the text can't
+/// be written, 5 where memory is wanting. Nothing may have been written to the first sink before.
 pub fn hall<F: Shelf + Blamed, S: Sink + Blamed + Drop, E: Sink>(
     alloc: Global,
     words: &Words,

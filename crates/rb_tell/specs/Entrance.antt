@@ -39,10 +39,10 @@ abbrev pub wrong_in : Command → List ℕ → Option (List ℕ)
 wrong_in (Usage line) wrong = Some wrong
 wrong_in command wrong = None
 
--- A program that carries out this request ends so, where this is what was wrong with words that ask for nothing: there is one end with this exit status; it has its cause behind the buffer, comes where
--- nothing outside stands in the way, and is told on standard error.
-pub record ProgramEndsSo (explains : Command → Explaining Why) (program : List ℕ) (request : Request) (wrong : List ℕ) (old new : Scene) (told_old told_new : Option (List ℕ))
-    (told_before told_after : Faults) (number : ℕ) (telling : Telling) : Type 0 where
+-- A program that carries out this request ends so, where this is what was wrong with words that ask for nothing: there is one end with this exit
+-- status; it has its cause behind the buffer, comes where nothing outside stands in the way, and is told on standard error.
+pub record ProgramEndsSo (explains : Command → Explaining Why) (program : List ℕ) (request : Request) (wrong : List ℕ) (old new : Scene)
+    (told_old told_new : Option (List ℕ)) (told_before told_after : Faults) (number : ℕ) (telling : Telling) : Type 0 where
   pub outcome : Outcome Why
   pub is : number ≡ number_of request.command outcome
   pub ends : EndsBehind (JudgesWithin request) (explains request.command) request.files (TakesWhileWriting request.command) old new outcome

@@ -29,7 +29,8 @@ returns-clause-ends g c =
         ap g.F.Shelf.faults (carried.ensures.untouched none),
       );
       tells = subst
-          (λ (file : Option Wants). TellsEnd (codes "rblview") (wrong_in (request_of (task_of given)).command wrong) file outcome (g.E.Sink.written c.args.err.now) (g.E.Sink.written told.new.err)
+          (λ (file : Option Wants). TellsEnd (codes "rblview") (wrong_in (request_of (task_of given)).command wrong) file outcome
+          (g.E.Sink.written c.args.err.now) (g.E.Sink.written told.new.err)
           (g.E.Sink.faults c.args.err.now) (g.E.Sink.faults told.new.err) told.result)
           c.file_in-file.ensures
           (told.ensures (task_short given old new outcome carried.ensures.ends));

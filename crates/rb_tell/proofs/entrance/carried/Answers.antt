@@ -32,7 +32,8 @@ returns-clause-ends g c =
         ap g.F.Shelf.faults (carried.ensures.untouched none),
       );
       tells = subst
-          (λ (file : Option Wants). TellsEnd (codes "rbl") (wrong_in request.command (misasked_text command_guides (codes "rbl") c.args.words.now)) file outcome (g.E.Sink.written c.args.err.now) (g.E.Sink.written told.new.err)
+          (λ (file : Option Wants). TellsEnd (codes "rbl") (wrong_in request.command (misasked_text command_guides (codes "rbl") c.args.words.now)) file outcome
+          (g.E.Sink.written c.args.err.now) (g.E.Sink.written told.new.err)
           (g.E.Sink.faults c.args.err.now) (g.E.Sink.faults told.new.err) told.result)
           c.file_in-file.ensures
           (told.ensures (short_end request (has_its_files given) (explains_of request.command) (TakesWhileWriting request.command) old new outcome
