@@ -12,6 +12,8 @@ pub mod Open
 pub mod Scope
 pub mod Meant
 pub mod Named
+pub mod Blocks
+pub mod Seconds
 pub mod Remarks
 pub mod Source
 pub mod Text

@@ -1,15 +1,12 @@
--- What is told of a name by where it is declared: the name that was meant, and the other place that a fault is about.
-use Rattle.std.specs.Prelude.{ℕ, nat_eq, Bool, true, false, cond, List, [], ◌∷◌, map, drop, length, codes, Option, Some, None, option_map, option_and_then, slice_get}
+-- What is told of a name by where it is declared, and the name that was meant.
+use Rattle.std.specs.Prelude.{ℕ, nat_eq, Bool, cond, List, [], ◌∷◌, map, drop, length, codes, Option, Some, None, option_map, option_and_then, slice_get}
 use Rattle.std.specs.Option.{is_some}
 use Rattle.std.specs.Cmp.Lexicographic.{pointwise}
-use Rattle.rb_base.specs.declared.fault.FaultName.{FaultName}
-use Rattle.rb_base.specs.declared.fault.FaultName.TheVariants.{S2, S3, S4, N2, N3, N4, N5, N6, N7, N8, N9, N10}
 use Rattle.rb_base.specs.declared.place.Place.{Place}
 use Rattle.rb_frame.specs.Frame.{noted}
 use Rattle.rb_lex.specs.TokenList.{tokens_of}
 use Rattle.rb_lex.specs.Tokens.{Lexeme}
 use Rattle.rb_near.specs.Nearest.{nearest}
-use Rattle.rb_why.specs.Converses.{first_converse}
 use Rattle.rb_why.specs.Meant.{meant_or}
 use Rattle.rb_why.specs.Scope.{named_behind, names_around}
 use Rattle.rb_why.specs.declared.converses.Converse.{Converse}
@@ -21,26 +18,6 @@ names_at source before = names_around before (drop (length before) (tokens_of so
 -- help with the name that an unknown one was meant to be
 abbrev pub name_told : List ℕ → List ℕ → List Lexeme → List ℕ
 name_told source here before = meant_or (nearest here (map (λ (token : Lexeme). token.text) (names_at source before))) []
-
--- the faults about a name whose declaration is told beside
-abbrev pub has_declaration : FaultName → Bool
-has_declaration S2 = true
-has_declaration S3 = true
-has_declaration S4 = true
-has_declaration N2 = true
-has_declaration N3 = true
-has_declaration N6 = true
-has_declaration N8 = true
-has_declaration N9 = true
-has_declaration N10 = true
-has_declaration name = false
-
--- the faults about a `converse` that is another one than the first for its conversation
-abbrev pub has_first : FaultName → Bool
-has_first N4 = true
-has_first N5 = true
-has_first N7 = true
-has_first name = false
 
 -- the place of the last of these that has this text, or else the one that was found before
 abbrev pub last_named : List ℕ → List Lexeme → Option Place → Option Place
@@ -66,11 +43,3 @@ place_named tokens converse = option_and_then (λ c. option_map (λ (token : Lex
 abbrev pub note_of : List ℕ → Option Place → List ℕ → List ℕ
 note_of source None words = []
 note_of source (Some place) words = noted source place words
-
--- where a name is declared, or the first `converse` for its conversation stands
-abbrev pub second_place : List ℕ → FaultName → List ℕ → List Lexeme → List ℕ
-second_place source name here before =
-    cond (has_declaration name) (note_of source (declaration source here before) (codes "it is declared here"))
-    (cond (has_first name)
-    (note_of source (place_named (tokens_of source) (first_converse (tokens_of source) here)) (codes "the first `converse` for it stands here"))
-    [])

@@ -13,8 +13,9 @@ use Rattle.rb_why.specs.Bytes.{from_place}
 use Rattle.rb_why.specs.Habits.{habit_words}
 use Rattle.rb_why.specs.Likeness.{is_nil}
 use Rattle.rb_why.specs.Meant.{meant_among, meant_or, statement_meant}
-use Rattle.rb_why.specs.Named.{name_told, note_of, second_place}
+use Rattle.rb_why.specs.Named.{name_told, note_of}
 use Rattle.rb_why.specs.Open.{innermost_open, last_of, text_of}
+use Rattle.rb_why.specs.Seconds.{second_place}
 use Rattle.rb_why.specs.Tokens.{text_at}
 
 -- the faults that come of what is written in other languages: about a byte, a token and a name

@@ -2,7 +2,7 @@
 use Rattle.std.specs.Prelude.{◌≡◌, ℕ, nat_le, Bool, not, ◌&&◌, cond, List, [], ◌∷◌, ◌++◌, length, codes}
 use Rattle.rb_base.specs.Words.{fault_word}
 use Rattle.rb_base.specs.declared.fault.FaultName.{FaultName}
-use Rattle.rb_base.specs.declared.fault.FaultName.TheVariants.{X1, X2, Y1, N3, N4}
+use Rattle.rb_base.specs.declared.fault.FaultName.TheVariants.{X1, X2, Y1, N3, N4, N5}
 use Rattle.rb_base.specs.declared.fault.SourceFault.{SourceFault}
 use Rattle.rb_base.specs.declared.place.Place.{Place}
 use Rattle.rb_lex.specs.TokenList.{tokens_of}
@@ -11,7 +11,7 @@ use Rattle.rb_why.specs.Expected.{TellsTried, told_first}
 use Rattle.rb_frame.specs.Frame.{framed_with}
 use Rattle.rb_why.specs.Likeness.{reads_like_schedule}
 use Rattle.rb_frame.specs.Lines.{before}
-use Rattle.rb_why.specs.Nested.{elsewhere, lacking}
+use Rattle.rb_why.specs.Nested.{elsewhere, lacking, unequal}
 use Rattle.rb_why.specs.Phrases.{sentence}
 use Rattle.rb_why.specs.Remarks.{is_about_token, remarks}
 use Rattle.rb_why.specs.Tokens.{text_at}
@@ -26,6 +26,7 @@ way_of X2 = ways.Open
 way_of Y1 = ways.Stray
 way_of N3 = ways.Lacking
 way_of N4 = ways.Elsewhere
+way_of N5 = ways.Unequal
 way_of name = ways.Token
 
 -- that a token can't stand at a place, or that the source ends there too early
@@ -61,6 +62,7 @@ words_by ways.Open source fault may = open_words source fault.place
 words_by ways.Stray source fault may = stray_told source fault.place may
 words_by ways.Lacking source fault may = lacking (tokens_of source) fault.place
 words_by ways.Elsewhere source fault may = elsewhere (tokens_of source) fault.place
+words_by ways.Unequal source fault may = unequal (tokens_of source) fault.place
 words_by ways.Token source fault may = sentence fault.name (text_at fault.place (tokens_of source))
 
 -- the sentence and the remarks, where this may stand at the place

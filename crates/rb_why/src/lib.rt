@@ -1,6 +1,7 @@
 //! Why a text is refused, in words: where, what is wrong, and what to look at next.
 #![tactic(auto)]
 
+mod blocks;
 mod bytes;
 mod converses;
 mod expected;
@@ -16,6 +17,7 @@ mod open;
 mod phrases;
 mod remarks;
 mod scope;
+mod seconds;
 pub mod source;
 pub mod stuck;
 pub mod text;

@@ -1,17 +1,17 @@
-//! What is told of a name by where it is declared: the name that was meant, and the other place that a fault is about.
+//! What is told of a name by where it is declared, and the name that was meant.
 
 ghost use Rattle.std.specs.Prelude.{◌≡◌, ◌≤◌, [], None, drop, length, map, option_map, slice_get, IfOk};
 ghost use Rattle.rb_lex.specs.Reader.{lexeme_of};
 ghost use Rattle.rb_lex.specs.TokenList.{tokens_of};
 ghost use Rattle.rb_lex.specs.Tokens.{Lexeme};
 ghost use Rattle.rb_why.specs.Converses.{first_converse};
-ghost use Rattle.rb_why.specs.Named.{declaration, has_declaration, has_first, is_quantified, last_named, name_told, names_at, note_of, place_named, quantifiers, second_place};
+ghost use Rattle.rb_why.specs.Named.{declaration, is_quantified, last_named, name_told, names_at, note_of, place_named, quantifiers};
 
 use crate::converses::{converses, first_converse};
 use crate::meant::nearest_told;
 use crate::scope::{names_around, with_named};
 use crate::tokens::tokens_of;
-use rb_base::{FaultName, MOST_BYTES, Memory, Place};
+use rb_base::{MOST_BYTES, Memory, Place};
 use rb_frame::frame::note;
 use rb_lex::Token;
 use std::alloc::Global;
@@ -44,9 +44,9 @@ fn names_at<'a>(
     names_around(alloc, before, behind(all.as_slice(), before.len()))
 }
 
-// The tokens behind so many.
+/// The tokens behind so many.
 #[tactic(auto, using(crate::proofs::Declaring::names_cut, crate::proofs::Declaring::none_left))]
-fn behind<'t, 'a>(tokens: &'t [Token<'a>], count: usize) -> &'t [Token<'a>]
+pub(crate) fn behind<'t, 'a>(tokens: &'t [Token<'a>], count: usize) -> &'t [Token<'a>]
     ensures { map lexeme_of result.now ≡ drop count (map lexeme_of tokens.now) }
 {
     if count <= tokens.len() {
@@ -69,35 +69,8 @@ fn texts_of<'a>(alloc: Global, tokens: &[Token<'a>]) -> Result<Vec<&'a [u8]>, Me
     Ok(texts)
 }
 
-/// Where a name is declared, or the first `converse` for its conversation stands, with its line; nothing where a fault is about neither.
-pub(crate) fn second_place<'a>(
-    alloc: Global,
-    source: &'a [u8],
-    name: FaultName,
-    here: &[u8],
-    before: &[Token<'a>],
-) -> Result<Vec<u8>, Memory>
-    requires { length source.now ≤ MOST_BYTES }
-    ensures { IfOk result (λ told. told.items ≡ second_place source.now name here.now (map lexeme_of before.now)) }
-{
-    if has_declaration(name) {
-        let place = declaration(alloc, source, here, before)?;
-        note_of(alloc, source, place, b"it is declared here")
-    } else if has_first(name) {
-        let place = first_place(alloc, source, here)?;
-        note_of(
-            alloc,
-            source,
-            place,
-            b"the first `converse` for it stands here",
-        )
-    } else {
-        Ok(Vec::new(alloc))
-    }
-}
-
-// Where a name is declared, of those around the place behind these tokens.
-fn declaration<'a>(
+/// Where a name is declared, of those around the place behind these tokens.
+pub(crate) fn declaration<'a>(
     alloc: Global,
     source: &'a [u8],
     name: &[u8],
@@ -121,8 +94,8 @@ fn is_quantified(alloc: Global, name: &[u8], before: &[Token<'_>]) -> Result<boo
     Ok(last_named(name, names.as_slice()).is_some())
 }
 
-// The place of the last of these that has this text.
-fn last_named(name: &[u8], tokens: &[Token<'_>]) -> Option<Place>
+/// The place of the last of these that has this text.
+pub(crate) fn last_named(name: &[u8], tokens: &[Token<'_>]) -> Option<Place>
     ensures { result ≡ last_named name.now (map lexeme_of tokens.now) None }
 {
     let mut found = None;
@@ -136,8 +109,12 @@ fn last_named(name: &[u8], tokens: &[Token<'_>]) -> Option<Place>
     found
 }
 
-// The place of the first `converse` for a conversation.
-fn first_place(alloc: Global, source: &[u8], name: &[u8]) -> Result<Option<Place>, Memory>
+/// The place of the first `converse` for a conversation.
+pub(crate) fn first_place(
+    alloc: Global,
+    source: &[u8],
+    name: &[u8],
+) -> Result<Option<Place>, Memory>
     requires { length source.now ≤ MOST_BYTES }
     ensures { IfOk result (λ place. place ≡ place_named (tokens_of source.now) (first_converse (tokens_of source.now) name.now)) }
 {
@@ -171,31 +148,6 @@ pub(crate) fn note_of(
         Some(place) => note(alloc, source, place, words),
         None => Ok(Vec::new(alloc)),
     }
-}
-
-// The faults about a name whose declaration is told beside.
-fn has_declaration(name: FaultName) -> bool
-    ensures { result ≡ has_declaration name }
-{
-    matches!(
-        name,
-        FaultName::S2
-            | FaultName::S3
-            | FaultName::S4
-            | FaultName::N2
-            | FaultName::N3
-            | FaultName::N6
-            | FaultName::N8
-            | FaultName::N9
-            | FaultName::N10
-    )
-}
-
-// The faults about a `converse` that is another one than the first for its conversation.
-fn has_first(name: FaultName) -> bool
-    ensures { result ≡ has_first name }
-{
-    matches!(name, FaultName::N4 | FaultName::N5 | FaultName::N7)
 }
 
 // The words behind which a quantified expression has its name.

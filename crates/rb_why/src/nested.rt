@@ -1,12 +1,15 @@
-//! Sentences about conversations inside each other.
+//! Sentences about conversations inside each other, and about the alternates of one.
 
 ghost use Rattle.std.specs.Prelude.{◌≡◌, ◌++◌, codes, map, option_map, IfOk};
 ghost use Rattle.rb_lex.specs.Reader.{lexeme_of};
-ghost use Rattle.rb_why.specs.Nested.{elsewhere, lacking, or_nothing, standing};
+ghost use Rattle.rb_why.specs.Nested.{alternates_of, counted, elsewhere, lacking, or_nothing, standing, unequal};
 ghost use Rattle.rb_why.specs.Converses.{converse_at, converses_of, first_converse, name_around};
 
+use crate::blocks::alternates;
 use crate::converses::{Converse, converse_at, converses, first_converse, name_around};
+use crate::named::behind;
 use crate::tokens::text_at;
+use itoa::Buffer;
 use rb_base::{Memory, Place};
 use rb_frame::joined::joined;
 use rb_lex::Token;
@@ -126,4 +129,66 @@ fn standing(alloc: Global, around: Option<&[u8]>) -> Result<Vec<u8>, Memory>
         Some(name) => joined(alloc, &[b"right inside `", name, b"`"]),
         None => joined(alloc, &[b"inside no conversation"]),
     }
+}
+
+/// That a `converse` has another number of alternates than the first one for its conversation, with both numbers.
+pub(crate) fn unequal_sentence(
+    alloc: Global,
+    tokens: &[Token<'_>],
+    place: Place,
+) -> Result<Vec<u8>, Memory>
+    ensures { IfOk result (λ words. words.items ≡ unequal (map lexeme_of tokens.now) place) }
+{
+    let name = text_at(tokens, place);
+    let converses = converses(alloc, tokens)?;
+    let here = alternates_of(tokens, converse_at(tokens, converses.as_slice(), place));
+    let first = alternates_of(tokens, first_converse(tokens, converses.as_slice(), name));
+    let here = counted(alloc, here)?;
+    let first = counted(alloc, first)?;
+    unequal(alloc, name, here.as_slice(), first.as_slice())
+}
+
+// How many alternates a `converse` has.
+fn alternates_of(tokens: &[Token<'_>], converse: Option<Converse>) -> usize
+    ensures { result ≡ alternates_of (map lexeme_of tokens.now) converse }
+{
+    match converse {
+        Some(converse) => alternates(behind(tokens, converse.named)),
+        None => 0,
+    }
+}
+
+// So many alternates.
+fn counted(alloc: Global, count: usize) -> Result<Vec<u8>, Memory>
+    ensures { IfOk result (λ words. words.items ≡ counted count) }
+{
+    let mut digits = Buffer::new();
+    let number = digits.format(count).as_bytes();
+    if count == 1 {
+        joined(alloc, &[number, b" alternate"])
+    } else {
+        joined(alloc, &[number, b" alternates"])
+    }
+}
+
+fn unequal<'w>(
+    alloc: Global,
+    name: &'w [u8],
+    here: &'w [u8],
+    first: &'w [u8],
+) -> Result<Vec<u8>, Memory>
+    ensures { IfOk result (λ words. words.items ≡
+        codes "this `converse` for `" ++ (name.now ++ (codes "` has " ++ (here.now ++ (codes ", and the first one has " ++ first.now))))) }
+{
+    joined(
+        alloc,
+        &[
+            b"this `converse` for `",
+            name,
+            b"` has ",
+            here,
+            b", and the first one has ",
+            first,
+        ],
+    )
 }

@@ -2,12 +2,12 @@
 
 ghost use Rattle.std.specs.Prelude.{◌≡◌, ◌≤◌, length, map, IfOk};
 ghost use Rattle.rb_lex.specs.TokenList.{tokens_of};
-ghost use Rattle.rb_why.specs.Nested.{elsewhere, lacking};
+ghost use Rattle.rb_why.specs.Nested.{elsewhere, lacking, unequal};
 ghost use Rattle.rb_why.specs.Source.{IsReason, Tries, reason_told, way_of, words_by};
 
 use crate::bytes::{byte_sentence, open_sentence};
 use crate::expected::{expected, is_tried, stray_sentence};
-use crate::nested::{elsewhere_sentence, lacking_sentence};
+use crate::nested::{elsewhere_sentence, lacking_sentence, unequal_sentence};
 use crate::phrases::sentence;
 use crate::remarks::{is_about_token, remarks};
 use crate::tokens::{token_text, tokens_of};
@@ -29,6 +29,8 @@ pub(crate) enum Way {
     Lacking,
     /// About the two conversations around one.
     Elsewhere,
+    /// About the alternates of a conversation.
+    Unequal,
     /// About the token at the place.
     Token,
 }
@@ -103,6 +105,7 @@ fn words_about(
         Way::Stray => stray_sentence(alloc, source, fault.place, may),
         Way::Lacking => lacking_there(alloc, source, fault.place),
         Way::Elsewhere => elsewhere_there(alloc, source, fault.place),
+        Way::Unequal => unequal_there(alloc, source, fault.place),
         Way::Token => sentence(alloc, fault.name, token_text(source, fault.place)),
     }
 }
@@ -123,6 +126,14 @@ fn elsewhere_there(alloc: Global, source: &[u8], place: Place) -> Result<Vec<u8>
     elsewhere_sentence(alloc, tokens.as_slice(), place)
 }
 
+fn unequal_there(alloc: Global, source: &[u8], place: Place) -> Result<Vec<u8>, Memory>
+    requires { length source.now ≤ MOST_BYTES }
+    ensures { IfOk result (λ words. words.items ≡ unequal (tokens_of source.now) place) }
+{
+    let tokens = tokens_of(alloc, source)?;
+    unequal_sentence(alloc, tokens.as_slice(), place)
+}
+
 fn way_of(name: FaultName) -> Way
     ensures { result ≡ way_of name }
 {
@@ -132,6 +143,7 @@ fn way_of(name: FaultName) -> Way
         FaultName::Y1 => Way::Stray,
         FaultName::N3 => Way::Lacking,
         FaultName::N4 => Way::Elsewhere,
+        FaultName::N5 => Way::Unequal,
         _ => Way::Token,
     }
 }
