@@ -1,5 +1,5 @@
 -- How the commands of `rbl` and of `rblview` are used. All of it is this project's own.
-use Rattle.std.specs.Prelude.{ℕ, List, [], ◌∷◌, map, codes, Option, Some, None, option_map}
+use Rattle.std.specs.Prelude.{ℕ, List, [], ◌∷◌, ◌++◌, map, codes, Option, Some, None, option_map}
 use Rattle.rb_asking.specs.declared.guides.Guide.{Guide as Kept}
 
 -- how a command is used: its name, the words that it takes, one more that may be left out, what it does, and a line for a shell that shows it
@@ -47,18 +47,29 @@ command_guides =
     ∷ guide (codes "stuck") (codes "SOURCE" ∷ codes "SCHEDULE" ∷ []) (codes "whether anything can still go on after a run, and who waits for what")
     (codes "rbl stuck examples/deadlock.rbl examples/deadlock.schedule") ∷ []
 
--- the commands of `rblview`
-abbrev pub view_guides : List Guide
-view_guides =
-    guide (codes "explain") (codes "NAME" ∷ []) (codes "what a fault or a cause means") (codes "rblview explain S1")
+-- a command that takes these words, and one more that may be left out
+abbrev pub guide_and_last : List ℕ → List (List ℕ) → List ℕ → List ℕ → List ℕ → Guide
+guide_and_last name takes last does example = record { name = name; takes = takes; last = Some last; does = does; example = example }
+
+-- the commands of `rblview` that take plain words alone
+abbrev pub plain_guides : List Guide
+plain_guides =
+    guide_and_last (codes "explain") [] (codes "NAME") (codes "what a fault or a cause means, or the names of all") (codes "rblview explain S1")
     ∷ guide (codes "trace") (codes "SOURCE" ∷ codes "SCHEDULE" ∷ []) (codes "what each turn of a run did")
     (codes "rblview trace examples/step1.rbl examples/step1.schedule")
     ∷ guide (codes "page") (codes "PAGE" ∷ codes "SOURCE" ∷ codes "SCHEDULE" ∷ []) (codes "a page that shows a run in a browser")
     (codes "rblview page view/page.html examples/step4.rbl examples/step4.schedule > step4.html")
-    ∷ record {
-      name = codes "explore";
-      takes = codes "SOURCE" ∷ [];
-      last = Some (codes "NUMBER");
-      does = codes "what a program comes to over all schedules, or a schedule that leads there";
-      example = codes "rblview explore examples/step5.rbl";
-    } ∷ []
+    ∷ guide_and_last (codes "explore") (codes "SOURCE" ∷ []) (codes "NUMBER")
+    (codes "what a program comes to over all schedules, or a schedule that leads there") (codes "rblview explore examples/step5.rbl")
+    ∷ guide (codes "faults") (codes "SOURCE" ∷ []) (codes "all faults of names, limits and nesting of a program, each with its reason")
+    (codes "rblview faults examples/faults/three.rbl") ∷ []
+
+-- the others, which options stand for too
+abbrev pub other_guides : List Guide
+other_guides =
+    guide_and_last (codes "help") [] (codes "NAME") (codes "how a command is used, or all of them") (codes "rblview help trace")
+    ∷ guide (codes "version") [] (codes "which version this is, and what is proved of it") (codes "rblview version") ∷ []
+
+-- the commands of `rblview`
+abbrev pub view_guides : List Guide
+view_guides = plain_guides ++ other_guides

@@ -2,6 +2,7 @@ pub mod Number
 pub mod Forms
 pub mod Guides
 pub mod Program
+pub mod Leading
 pub mod Misasked
 pub mod Commands
 pub mod CommandLine

@@ -1,10 +1,11 @@
--- What was wrong with words that ask for nothing; or how the commands are used, where the words ask for help.
-use Rattle.std.specs.Prelude.{ℕ, ◌+◌, ◌==◌, nat_eq, nat_lt, Bool, not, cond, List, [], ◌∷◌, length, drop, map, codes, Option, Some, None}
-use Rattle.std.specs.List.{concat, find, flat_map, list_any}
+-- What was wrong with words that ask for nothing; or how the commands are used, or the version, where the words ask for that.
+use Rattle.std.specs.Prelude.{ℕ, ◌+◌, ◌==◌, nat_eq, nat_lt, Bool, false, not, cond, List, [], ◌∷◌, length, drop, map, codes, Option, Some, None}
+use Rattle.std.specs.List.{concat, find, flat_map}
 use Rattle.std.specs.Cmp.Lexicographic.{pointwise}
 use Rattle.rb_near.specs.Nearest.{nearest}
 use Rattle.rb_words.specs.Plain.{is_plain_word}
 use Rattle.rb_asking.specs.Guides.{Guide}
+use Rattle.rb_asking.specs.Leading.{is_help, is_help_alone, is_version}
 
 -- ---- a command and its words
 
@@ -74,10 +75,15 @@ no_command guides program name =
     (concat (misnamed_text (codes "command") program (map (λ guide. guide.name) guides) name ∷ flat_map usage_row guides ∷ []))
     (no_word program name)
 
+-- the words that it takes, if any, and one that may be left out
+unfoldable pub taken : List (List ℕ) → Option (List ℕ) → List ℕ
+taken [] None = codes "nothing"
+taken [] (Some word) = concat (word ∷ codes " or nothing" ∷ [])
+taken (first ∷ more) last = concat (listed (first ∷ more) ∷ perhaps last ∷ [])
+
 -- what a command takes
 unfoldable pub takes_words : List ℕ → Guide → List ℕ
-takes_words program guide =
-    concat (program ∷ codes ": `" ∷ guide.name ∷ codes "` takes " ∷ listed guide.takes ∷ perhaps guide.last ∷ [])
+takes_words program guide = concat (program ∷ codes ": `" ∷ guide.name ∷ codes "` takes " ∷ taken guide.takes guide.last ∷ [])
 
 -- that it has too few words, of which these are missing
 unfoldable pub too_few : List ℕ → Guide → List (List ℕ) → List ℕ
@@ -109,30 +115,41 @@ abbrev pub misused : List ℕ → Guide → List (List ℕ) → Option (List ℕ
 misused program guide words (Some word) = no_word program word
 misused program guide words None = miscounted program guide (length words)
 
--- ---- all of it
-
--- the words that ask for help
-abbrev pub help_words : List (List ℕ)
-help_words = codes "help" ∷ codes "--help" ∷ codes "-h" ∷ []
-
-abbrev pub is_help : List ℕ → Bool
-is_help word = list_any (λ help. pointwise nat_eq help word) help_words
+-- ---- help and the version
 
 -- the command of a name
 abbrev pub guide_named : List Guide → List ℕ → Option Guide
 guide_named guides name = find (λ guide. pointwise nat_eq guide.name name) guides
 
--- a word for help, with the command behind it
+-- help for a command that is named
 abbrev pub help_of : List Guide → List ℕ → List ℕ → Option Guide → List ℕ
 help_of guides program name None = no_command guides program name
 help_of guides program name (Some guide) = help_rows guide
 
 -- help for all commands, or for the one that is named
-abbrev pub help_text : List Guide → List ℕ → List (List ℕ) → List ℕ
-help_text guides program [] = flat_map help_rows guides
-help_text guides program (name ∷ words) = help_of guides program name (guide_named guides name)
+abbrev pub help_text : List Guide → List ℕ → Option (List ℕ) → List ℕ
+help_text guides program None = flat_map help_rows guides
+help_text guides program (Some name) = help_of guides program name (guide_named guides name)
 
--- a first word that asks for no help, with the command of that name, and the words behind it
+-- the version of a program
+unfoldable pub version_text : List ℕ → List ℕ
+version_text program =
+    concat (program ∷ codes " 1.0.0, of rattle-kit-13f: each function is proved to meet its contract, where rt built it "
+    ∷ codes "(a program that was compiled without proofs says `not proved` beside this line)\n" ∷ [])
+
+-- ---- all of it
+
+-- a word for help, with the words behind it, of which the first may name a command
+abbrev pub asked_help : List Guide → List ℕ → List (List ℕ) → List ℕ
+asked_help guides program [] = help_text guides program None
+asked_help guides program (name ∷ words) = help_text guides program (Some name)
+
+-- a word for the version that has nothing behind it
+abbrev pub is_version_alone : List ℕ → List (List ℕ) → Bool
+is_version_alone first [] = is_version first
+is_version_alone first (word ∷ words) = false
+
+-- a first word that asks for neither, with the command of that name, and the words behind it
 abbrev pub command_text : List Guide → List ℕ → List ℕ → List (List ℕ) → Option Guide → List ℕ
 command_text guides program name words None = no_command guides program name
 command_text guides program name words (Some guide) = misused program guide words (find (λ word. not (is_plain_word word)) words)
@@ -141,4 +158,6 @@ command_text guides program name words (Some guide) = misused program guide word
 abbrev pub misasked_text : List Guide → List ℕ → List (List ℕ) → List ℕ
 misasked_text guides program [] = command_missing guides program
 misasked_text guides program (first ∷ words) =
-    cond (is_help first) (help_text guides program words) (command_text guides program first words (guide_named guides first))
+    cond (is_help first) (asked_help guides program words)
+    (cond (is_help_alone words) (help_text guides program (Some first))
+    (cond (is_version_alone first words) (version_text program) (command_text guides program first words (guide_named guides first))))

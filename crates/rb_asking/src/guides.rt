@@ -1,6 +1,6 @@
 //! How the commands of `rbl` and of `rblview` are used.
 ghost use Rattle.std.specs.Prelude.{◌≡◌, map};
-ghost use Rattle.rb_asking.specs.Guides.{command_guides, guide_of, view_guides};
+ghost use Rattle.rb_asking.specs.Guides.{command_guides, guide_of, plain_guides, view_guides};
 
 /// How a command is used.
 #[derive(Clone, Copy)]
@@ -97,12 +97,12 @@ static COMMANDS: [Guide; 11] = [
     },
 ];
 
-static VIEWS: [Guide; 4] = [
+static VIEWS: [Guide; 7] = [
     Guide {
         name: "explain",
-        takes: &["NAME"],
-        last: None,
-        does: "what a fault or a cause means",
+        takes: &[],
+        last: Some("NAME"),
+        does: "what a fault or a cause means, or the names of all",
         example: "rblview explain S1",
     },
     Guide {
@@ -126,7 +126,31 @@ static VIEWS: [Guide; 4] = [
         does: "what a program comes to over all schedules, or a schedule that leads there",
         example: "rblview explore examples/step5.rbl",
     },
+    Guide {
+        name: "faults",
+        takes: &["SOURCE"],
+        last: None,
+        does: "all faults of names, limits and nesting of a program, each with its reason",
+        example: "rblview faults examples/faults/three.rbl",
+    },
+    Guide {
+        name: "help",
+        takes: &[],
+        last: Some("NAME"),
+        does: "how a command is used, or all of them",
+        example: "rblview help trace",
+    },
+    Guide {
+        name: "version",
+        takes: &[],
+        last: None,
+        does: "which version this is, and what is proved of it",
+        example: "rblview version",
+    },
 ];
+
+// How many of those take plain words alone; options stand for the others too.
+const PLAIN: usize = 5;
 
 /// The commands of `rbl`.
 pub fn command_guides() -> &'static [Guide]
@@ -140,4 +164,11 @@ pub fn view_guides() -> &'static [Guide]
     ensures { map guide_of result.now ≡ view_guides }
 {
     &VIEWS
+}
+
+/// Those that take plain words alone.
+pub(crate) fn plain_guides() -> &'static [Guide]
+    ensures { map guide_of result.now ≡ plain_guides }
+{
+    &VIEWS[..PLAIN]
 }

@@ -3,6 +3,8 @@
 
 pub mod asking;
 pub mod guides;
+pub mod helping;
+mod leading;
 pub mod line;
 pub mod misasked;
 pub mod number;
@@ -13,6 +15,7 @@ pub mod wrong;
 
 pub use asking::{Asked, asked_for};
 pub use guides::{Guide, command_guides, view_guides};
+pub use helping::{guide_named, help, version};
 pub use line::{none_unless_memory, program_alone, with_commands};
 pub use viewing::{View, view_for};
 pub use words::Words;

@@ -1,12 +1,14 @@
-//! What was wrong with words that ask for nothing; or how the commands are used, where the words ask for help.
-ghost use Rattle.std.specs.Prelude.{◌≡◌, ◌≤◌, ◌++◌, drop, length, map, option_map, string_bytes, not, IfOk, OnOk};
+//! What was wrong with words that ask for nothing; or how the commands are used, or the version, where the words ask for that.
+ghost use Rattle.std.specs.Prelude.{◌≡◌, ◌≤◌, ◌++◌, ◌∷◌, drop, length, map, option_map, string_bytes, not, IfOk, OnOk};
 ghost use Rattle.std.specs.List.{find};
 ghost use Rattle.rb_words.specs.Plain.{is_plain_word};
 ghost use Rattle.rb_asking.specs.Guides.{guide_of};
-ghost use Rattle.rb_asking.specs.Misasked.{command_missing, command_text, guide_named, help_text, is_help, last_count, misasked_text, miscounted};
+ghost use Rattle.rb_asking.specs.Misasked.{asked_help, command_missing, command_text, guide_named, is_version_alone, last_count, misasked_text, miscounted};
 
 use crate::guides::Guide;
-use crate::rows::{push, push_help_rows, push_helps, push_usages};
+use crate::helping::{guide_named, push_help, push_version};
+use crate::leading::{is_help, is_help_alone, is_version};
+use crate::rows::{push, push_usages};
 use crate::words::Words;
 use crate::wrong::{push_no_command, push_no_number, push_no_word, push_too_few, push_too_many};
 use rb_base::Memory;
@@ -14,7 +16,7 @@ use rb_words::is_plain;
 use std::alloc::Global;
 
 /// What is told of words that ask a program of this name, which has these commands, for nothing: what was wrong with them; or how the commands are
-/// used, where they ask for help.
+/// used, or the version, where they ask for that.
 pub fn misasked(
     alloc: Global,
     guides: &[Guide],
@@ -40,35 +42,41 @@ fn push_misasked(
 {
     match words {
         [] => push_missing(told, guides, program),
-        [first, rest @ ..] => {
-            if is_help(first.as_str()) {
-                push_help(alloc, told, guides, program, rest)
-            } else {
-                push_command(alloc, told, guides, program, first.as_str(), rest)
-            }
-        }
+        [first, rest @ ..] => push_led(alloc, told, guides, program, first.as_str(), rest),
     }
 }
 
-// Whether a word asks for help.
-fn is_help(word: &str) -> bool
-    ensures { result ≡ is_help word.now }
+// What is told of a first word and those behind it.
+fn push_led(
+    alloc: Global,
+    told: &mut Vec<u8>,
+    guides: &[Guide],
+    program: &str,
+    first: &str,
+    rest: &[String],
+) -> Result<(), Memory>
+    ensures { OnOk result
+        (told.new.items ≡ told.old.items ++ misasked_text (map guide_of guides.now) program.now (first.now ∷ map string_bytes rest.now)) }
 {
-    word == "help" || word == "--help" || word == "-h"
+    if is_help(first) {
+        push_asked_help(alloc, told, guides, program, rest)
+    } else if is_help_alone(rest) {
+        push_help(alloc, told, guides, program, Some(first))
+    } else if is_version_alone(first, rest) {
+        push_version(told, program)
+    } else {
+        push_command(alloc, told, guides, program, first, rest)
+    }
 }
 
-// The command of a name.
-fn guide_named(guides: &[Guide], name: &str) -> Option<Guide>
-    ensures { option_map guide_of result ≡ guide_named (map guide_of guides.now) name.now }
+// Whether a first word asks for the version, and nothing is behind it.
+fn is_version_alone(first: &str, rest: &[String]) -> bool
+    ensures { result ≡ is_version_alone first.now (map string_bytes rest.now) }
 {
-    let mut rest = guides;
-    while let [guide, after @ ..] = rest {
-        if guide.name == name {
-            return Some(*guide);
-        }
-        rest = after;
+    match rest {
+        [] => is_version(first),
+        _ => false,
     }
-    None
 }
 
 #[tactic(auto, unfolding(crate::specs::Misasked::command_missing))]
@@ -80,8 +88,8 @@ fn push_missing(told: &mut Vec<u8>, guides: &[Guide], program: &str) -> Result<(
     Ok(())
 }
 
-// Help for all commands, or for the one that is named.
-fn push_help(
+// Help for all commands, or for the one that the first of these words names.
+fn push_asked_help(
     alloc: Global,
     told: &mut Vec<u8>,
     guides: &[Guide],
@@ -89,14 +97,11 @@ fn push_help(
     words: &[String],
 ) -> Result<(), Memory>
     ensures { OnOk result
-        (told.new.items ≡ told.old.items ++ help_text (map guide_of guides.now) program.now (map string_bytes words.now)) }
+        (told.new.items ≡ told.old.items ++ asked_help (map guide_of guides.now) program.now (map string_bytes words.now)) }
 {
     match words {
-        [] => push_helps(told, guides),
-        [name, ..] => match guide_named(guides, name.as_str()) {
-            None => push_no_command(alloc, told, guides, program, name.as_str()),
-            Some(guide) => push_help_rows(told, guide),
-        },
+        [] => push_help(alloc, told, guides, program, None),
+        [name, ..] => push_help(alloc, told, guides, program, Some(name.as_str())),
     }
 }
 

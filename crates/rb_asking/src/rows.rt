@@ -1,8 +1,8 @@
 //! A command with its words, as it is shown.
-ghost use Rattle.std.specs.Prelude.{◌≡◌, ◌++◌, map, option_map, OnOk};
+ghost use Rattle.std.specs.Prelude.{◌≡◌, ◌++◌, [], map, option_map, OnOk};
 ghost use Rattle.std.specs.List.{flat_map};
 ghost use Rattle.rb_asking.specs.Guides.{guide_of};
-ghost use Rattle.rb_asking.specs.Misasked.{between, help_rows, listed, perhaps, spaced, spaced_last, usage, usage_row};
+ghost use Rattle.rb_asking.specs.Misasked.{between, help_rows, listed, perhaps, spaced, spaced_last, taken, usage, usage_row};
 
 use crate::guides::Guide;
 use rb_base::Memory;
@@ -126,9 +126,39 @@ fn between(more: &[&str]) -> &'static str
     }
 }
 
-/// A word that may be left out, behind others in a sentence.
+/// The words that a command takes, if any, and one that may be left out.
+#[tactic(auto, unfolding(crate::specs::Misasked::taken))]
+pub(crate) fn push_taken(
+    text: &mut Vec<u8>,
+    takes: &[&str],
+    last: Option<&str>,
+) -> Result<(), Memory>
+    ensures { OnOk result (text.new.items
+        ≡ text.old.items ++ taken (map (λ word. word.now) takes.now) (option_map (λ word. word.now) last.entry)) }
+{
+    match takes {
+        [] => push_only(text, last),
+        _ => {
+            push_listed(text, takes)?;
+            push_perhaps(text, last)
+        }
+    }
+}
+
+// A word that may be left out, where there is no other.
+#[tactic(auto, unfolding(crate::specs::Misasked::taken))]
+fn push_only(text: &mut Vec<u8>, last: Option<&str>) -> Result<(), Memory>
+    ensures { OnOk result (text.new.items ≡ text.old.items ++ taken [] (option_map (λ word. word.now) last.entry)) }
+{
+    match last {
+        None => push(text, &["nothing"]),
+        Some(word) => push(text, &[word, " or nothing"]),
+    }
+}
+
+// A word that may be left out, behind others in a sentence.
 #[tactic(auto, unfolding(crate::specs::Misasked::perhaps))]
-pub(crate) fn push_perhaps(text: &mut Vec<u8>, last: Option<&str>) -> Result<(), Memory>
+fn push_perhaps(text: &mut Vec<u8>, last: Option<&str>) -> Result<(), Memory>
     ensures { OnOk result (text.new.items ≡ text.old.items ++ perhaps (option_map (λ word. word.now) last.entry)) }
 {
     match last {

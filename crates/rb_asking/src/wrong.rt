@@ -4,7 +4,7 @@ ghost use Rattle.rb_asking.specs.Guides.{guide_of};
 ghost use Rattle.rb_asking.specs.Misasked.{meant, misnamed_text, no_command, no_number, no_word, takes_words, too_few, too_many};
 
 use crate::guides::Guide;
-use crate::rows::{push, push_bytes, push_listed, push_perhaps, push_usages};
+use crate::rows::{push, push_bytes, push_listed, push_taken, push_usages};
 use rb_base::Memory;
 use rb_near::nearest;
 use rb_words::is_plain;
@@ -112,8 +112,7 @@ fn push_takes(told: &mut Vec<u8>, program: &str, guide: Guide) -> Result<(), Mem
 {
     push(told, &[program])?;
     push(told, &[": `", guide.name, "` takes "])?;
-    push_listed(told, guide.takes)?;
-    push_perhaps(told, guide.last)
+    push_taken(told, guide.takes, guide.last)
 }
 
 /// That a command has too few words, of which these are missing.

@@ -14,11 +14,12 @@ use Rattle.clap.specs.declared.parser.matches.Found.{Found}
 use Rattle.clap.specs.Faults.{fault_of, is_simple_and_free}
 use Rattle.clap.specs.declared.error.kind.ErrorKind.TheVariants.{OutOfMemory}
 use Rattle.clap.proofs.WalkLemmas.{first_value-rows}
-use Rattle.rb_words.specs.Given.{three_given, two_given, with_last, with_three, with_two}
+use Rattle.rb_words.specs.Given.{three_given, two_given, with_last, with_perhaps, with_three, with_two}
 use Rattle.rb_words.specs.Plain.{is_plain_word}
 use Rattle.rb_words.proofs.Leaves.{fault_at, leaf, no_fault, some_fault}
 use Rattle.rb_words.proofs.Leaves.{one-few, one-many, one-takes, one-value, two-few, two-many, two-none, two-takes, two-values}
 use Rattle.rb_words.proofs.Leaves.{fault_at_last, last-left_out, last-many, last-none, last-takes, last-value, last-values, leaf_and_last}
+use Rattle.rb_words.proofs.Leaves.{fault_at_perhaps, leaf_perhaps, perhaps-left_out, perhaps-many, perhaps-none, perhaps-takes, perhaps-value}
 use Rattle.rb_words.proofs.Leaves.{three-few, three-fewer, three-many, three-none, three-takes, three-values}
 
 module _ {R : Type 0} (program : App) (request_given : Text → (Text → Option Text) → Option R) (request_of : List Text → Option R) where
@@ -120,6 +121,29 @@ module _ {R : Type 0} (program : App) (request_given : Text → (Text → Option
         let second = and_parts _ _ first.1 in
         refused (some_fault _ _ _ _ (fault (a ∷ b ∷ more)) (one-many name i same a b more first.0 second.0))
         (beyond a b more plain)
+
+  -- a command that takes one word that may be left out
+  module _ (name i : Text) (of : Option Text → R) (same : bytes_eq i i ≡ true)
+      (fault : (words : List Text) → fault_of program (name ∷ words) ≡ or_else (fault_at_perhaps name i words) [])
+      (values : (words : List Text) → subcommand_of program (name ∷ words) ≡ Some (name, rows_after (leaf_perhaps name i).rules [] words))
+      (gives : (given : Text → Option Text) → request_given name given ≡ Some (of (given i)))
+      (form : (words : List Text) → list_all is_plain_word words ≡ true → request_of (name ∷ words) ≡ with_perhaps of words) where
+    pub perhaps_agrees : (words : List Text) → list_all is_plain_word words ≡ true → Agrees (name ∷ words)
+    perhaps_agrees [] plain =
+        let given : Text → Option Text = λ id. first_of id (rows_after (leaf_perhaps name i).rules [] []) in
+        let found : found_in (subcommand_of program (name ∷ [])) ≡ Some (of None) =
+        ap found_in (values []) ∙ gives given ∙ ap (λ (a : Option Text). Some (of a)) (perhaps-none name i same) in
+        taken (no_fault _ _ (fault []) (perhaps-left_out name i same)) (found ∙ sym (form [] plain))
+    perhaps_agrees (a ∷ []) plain =
+        let one = and_parts _ _ plain in
+        let given : Text → Option Text = λ id. first_of id (rows_after (leaf_perhaps name i).rules [] (a ∷ [])) in
+        let found : found_in (subcommand_of program (name ∷ a ∷ [])) ≡ Some (of (Some a)) =
+        ap found_in (values (a ∷ [])) ∙ gives given ∙ ap (λ (x : Option Text). Some (of x)) (perhaps-value name i same a one.0) in
+        taken (no_fault _ _ (fault (a ∷ [])) (perhaps-takes name i same a one.0)) (found ∙ sym (form (a ∷ []) plain))
+    perhaps_agrees (a ∷ b ∷ more) plain =
+        let one = and_parts _ _ plain in
+        let other = and_parts _ _ one.1 in
+        refused (some_fault _ _ _ _ (fault (a ∷ b ∷ more)) (perhaps-many name i same a b more one.0 other.0)) (form (a ∷ b ∷ more) plain)
 
   -- a command that takes one word, and a second that may be left out
   module _ (name i j : Text) (of : Text → Option Text → Option R) (first : bytes_eq i i ≡ true) (second : bytes_eq j j ≡ true)

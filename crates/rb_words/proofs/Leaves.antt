@@ -149,6 +149,46 @@ module _ (name i j : Text) (first : bytes_eq i i ≡ true) (second : bytes_eq j 
         turn [] (held_at (row_of i a ∷ []) j b) 3 c plain'' refl two,
       ) (simp (first, ahead))
 
+-- one that takes one word that may be left out, as `clap` completes it
+abbrev pub leaf_perhaps : Text → Text → Shape
+leaf_perhaps name i = record (new_shape name) {
+  rules = filled_from 1 (new_rule i ∷ []);
+  no_binary_name = true;
+  disable_help_flag = true;
+  disable_help_subcommand = true;
+  is_built = true;
+}
+
+abbrev pub fault_at_perhaps : Text → Text → List Text → Kinds
+fault_at_perhaps name i words = level_fault (leaf_perhaps name i) [] nothing_held words false []
+
+module _ (name i : Text) (same : bytes_eq i i ≡ true) where
+  abbrev pub perhaps : Shape
+  perhaps = leaf_perhaps name i
+
+  pub first_perhaps : (a : Text) → is_plain_word a ≡ true → walked perhaps.rules [] (standing nothing_held 1) a ≡ standing (held_at [] i a) 2
+  first_perhaps a plain = next [] nothing_held 1 a plain refl perhaps.rules
+
+  pub perhaps-value : (a : Text) → is_plain_word a ≡ true → first_of i (rows_after perhaps.rules [] (a ∷ [])) ≡ Some a
+  perhaps-value a plain = rw (first_perhaps a plain) (simp same)
+
+  pub perhaps-none : first_of i (rows_after perhaps.rules [] []) ≡ None
+  perhaps-none = refl
+
+  pub perhaps-left_out : fault_at_perhaps name i [] ≡ []
+  unfolding clap_on_literals
+  perhaps-left_out = refl
+
+  pub perhaps-takes : (a : Text) → is_plain_word a ≡ true → fault_at_perhaps name i (a ∷ []) ≡ []
+  unfolding walk_fault defaults_fault
+  perhaps-takes a plain = rw (turn [] nothing_held 1 a plain refl perhaps, first_perhaps a plain) (simp same)
+
+  pub perhaps-many : (a b : Text) (more : List Text) → is_plain_word a ≡ true → is_plain_word b ≡ true
+      → fault_at_perhaps name i (a ∷ b ∷ more) ≡ UnknownArgument ∷ []
+  unfolding walk_fault
+  perhaps-many a b more plain plain' =
+      rw (turn [] nothing_held 1 a plain refl perhaps, first_perhaps a plain, turn [] (held_at [] i a) 2 b plain' refl perhaps) refl
+
 -- one that takes one, and a second that may be left out, as `clap` completes it
 abbrev pub leaf_and_last : Text → Text → Text → Shape
 leaf_and_last name i j = record (new_shape name) {

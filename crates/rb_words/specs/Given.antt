@@ -7,6 +7,12 @@ with_one of [] = None
 with_one of (a ∷ []) = Some (of a)
 with_one of (a ∷ b ∷ more) = None
 
+-- one that takes one, or none
+abbrev pub with_perhaps : {R : Type 0} → (Option (List ℕ) → R) → List (List ℕ) → Option R
+with_perhaps of [] = Some (of None)
+with_perhaps of (a ∷ []) = Some (of (Some a))
+with_perhaps of (a ∷ b ∷ more) = None
+
 -- one that takes one, and a second that may be left out
 abbrev pub with_last : {R : Type 0} → (List ℕ → Option (List ℕ) → Option R) → List (List ℕ) → Option R
 with_last of [] = None

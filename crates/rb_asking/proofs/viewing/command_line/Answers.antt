@@ -10,6 +10,6 @@ pub returns : goal.returns
 returns c =
     IfOk-weaker c.with_commands.result _ _
     (λ line told. told
-    ∙ ap (λ app. fold with_subcommand app (map shape_of (map guide_of c.view_guides.result.now))) c.program_alone.ensures
-    ∙ ap (λ (guides : List Guide). fold with_subcommand (program_alone (codes "rblview")) (map shape_of guides)) c.view_guides.ensures)
+    ∙ ap (λ app. fold with_subcommand app (map shape_of (map guide_of c.plain_guides.result.now))) c.program_alone.ensures
+    ∙ ap (λ (guides : List Guide). fold with_subcommand (program_alone (codes "rblview")) (map shape_of guides)) c.plain_guides.ensures)
     c.with_commands.ensures

@@ -1,7 +1,7 @@
 use Rattle.std.proofs.Common.{◌≡◌, map, length}
 use Rattle.rb_asking.specs.Guides.{guide_of}
 use Rattle.rb_asking.specs.Misasked.{guide_named}
-use Rattle.rb_asking.proofs.misasked.guide_named.Given as goal
+use Rattle.rb_asking.proofs.helping.guide_named.Given as goal
 
 -- none of those before has the name
 abbrev pub invariant-loop-rest : goal.invariant-loop-rest
