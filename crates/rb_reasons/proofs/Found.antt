@@ -1,8 +1,8 @@
 -- Looking for a name among the names of texts.
-use Rattle.std.proofs.Common.{◌≡◌, ◌∙◌, ℕ, nat_eq, Bool, true, false, List, [], ◌∷◌, ◌++◌, map, Option, Some, None, option_map, cond, Bor, refl, sym, ap, ap₂}
+use Rattle.std.proofs.Common.{◌≡◌, ◌∙◌, ℕ, Bool, true, false, List, [], ◌∷◌, ◌++◌, map, Option, Some, None, option_map, cond, Bor, refl, sym, ap, ap₂}
 use Rattle.std.specs.List.{find}
 use Rattle.std.specs.Option.{option_or, option_copied}
-use Rattle.std.specs.Cmp.Lexicographic.{pointwise}
+use Rattle.std.specs.Str.{str_eq_ignore_ascii_case}
 use Rattle.std.proofs.lemmas.List.Folds.{find-append}
 use Rattle.rb_reasons.specs.Names.{name_of}
 
@@ -21,11 +21,11 @@ option_map-twice f g (Some x) = refl
 
 -- the name of a text that is found by a name among texts with these names
 pub found_in : (r : Option (Bor (Bor (List ℕ)))) (name : List ℕ) (texts : List (Bor (List ℕ))) (names : List (List ℕ)) →
-    option_map (λ text. text.now) r ≡ find (λ text. pointwise nat_eq (name_of text.now) name) texts → map (λ text. name_of text.now) texts ≡ names →
-    option_map (λ text. name_of text.now.now) r ≡ find (λ word. pointwise nat_eq word name) names
+    option_map (λ text. text.now) r ≡ find (λ text. str_eq_ignore_ascii_case (name_of text.now) name) texts → map (λ text. name_of text.now) texts ≡ names →
+    option_map (λ text. name_of text.now.now) r ≡ find (λ word. str_eq_ignore_ascii_case word name) names
 found_in r name texts names is all =
     option_map-twice (λ (text : Bor (List ℕ)). name_of text.now) (λ text. text.now) r ∙ ap (option_map (λ text. name_of text.now)) is
-    ∙ found_named (λ text. name_of text.now) (λ word. pointwise nat_eq word name) texts ∙ ap (find (λ word. pointwise nat_eq word name)) all
+    ∙ found_named (λ text. name_of text.now) (λ word. str_eq_ignore_ascii_case word name) texts ∙ ap (find (λ word. str_eq_ignore_ascii_case word name)) all
 
 -- a text that was copied
 pub copied : (o : Option (Bor (Bor (List ℕ)))) → option_map (λ text. name_of text.now) (option_copied o) ≡ option_map (λ text. name_of text.now.now) o

@@ -1,2 +1,3 @@
 mod Found
+mod Lined
 mod Named

@@ -2,19 +2,21 @@
 #![tactic(auto)]
 
 pub mod laws;
+mod lines;
 mod listed;
 mod texts;
 
-ghost use Rattle.std.specs.Prelude.{◌≡◌, nat_eq, option_map};
+ghost use Rattle.std.specs.Prelude.{◌≡◌, option_map};
 ghost use Rattle.std.specs.List.{find, prefix_len};
-ghost use Rattle.std.specs.Cmp.Lexicographic.{pointwise};
-ghost use Rattle.rb_reasons.specs.Names.{name_of, is_of_name, names};
+ghost use Rattle.std.specs.Str.{str_eq_ignore_ascii_case};
+ghost use Rattle.rb_reasons.specs.Names.{name_of, is_of_name, named};
 
+pub use lines::headlines;
 pub use listed::all_names;
 
-/// The text of a fault or a cause; `None` where the word names neither. A text begins with its name and a colon.
+/// The text of a fault or a cause; `None` where the word names neither. Large letters count as small ones. A text begins with its name and a colon.
 pub fn reason_of(name: &[u8]) -> Option<&'static [u8]>
-    ensures { option_map (λ text. name_of text.now) result ≡ find (λ word. pointwise nat_eq word name.now) names }
+    ensures { option_map (λ text. name_of text.now) result ≡ named name.now }
 {
     find_in(texts::of_source(), name)
         .or(find_in(texts::of_scopes(), name))
@@ -26,9 +28,11 @@ pub fn reason_of(name: &[u8]) -> Option<&'static [u8]>
 
 // The first of these texts that has this name.
 fn find_in(texts: &'static [&'static [u8]], name: &[u8]) -> Option<&'static &'static [u8]>
-    ensures { option_map (λ text. text.now) result ≡ find (λ text. pointwise nat_eq (name_of text.now) name.now) texts.now }
+    ensures { option_map (λ text. text.now) result ≡ find (λ text. str_eq_ignore_ascii_case (name_of text.now) name.now) texts.now }
 {
-    texts.iter().find(|text| name_of(text) == name)
+    texts
+        .iter()
+        .find(|text| name_of(text).eq_ignore_ascii_case(name))
 }
 
 // What stands before the first colon of a text.

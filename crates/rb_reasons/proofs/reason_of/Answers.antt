@@ -1,5 +1,5 @@
-use Rattle.std.proofs.Common.{◌∙◌, ℕ, nat_eq, Bool, List, ◌++◌, Bor, option_map, ap}
-use Rattle.std.specs.Cmp.Lexicographic.{pointwise}
+use Rattle.std.proofs.Common.{◌∙◌, ℕ, Bool, List, ◌++◌, Bor, option_map, ap}
+use Rattle.std.specs.Str.{str_eq_ignore_ascii_case}
 use Rattle.rb_reasons.specs.Names.{name_of, of_source, of_scopes, of_nesting, of_files, of_causes}
 use Rattle.rb_reasons.proofs.Found.{found_in, found_behind, copied}
 use Rattle.rb_reasons.proofs.reason_of.Goals as goal
@@ -8,7 +8,7 @@ pub returns : goal.returns
 returns c =
     let name = c.args.name.now in
     let of : Bor (Bor (List ℕ)) → List ℕ = λ text. name_of text.now.now in
-    let p : List ℕ → Bool = λ word. pointwise nat_eq word name in
+    let p : List ℕ → Bool = λ word. str_eq_ignore_ascii_case word name in
     let source = found_in c.find_in.result name c.of_source.result.now of_source c.find_in.ensures c.of_source.ensures in
     let scopes = found_in c.find_in-2.result name c.of_scopes.result.now of_scopes c.find_in-2.ensures c.of_scopes.ensures in
     let nesting = found_in c.find_in-3.result name c.of_nesting.result.now of_nesting c.find_in-3.ensures c.of_nesting.ensures in
