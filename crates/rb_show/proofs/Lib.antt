@@ -1,5 +1,6 @@
 mod Ends
 mod Exploring
+mod Faulting
 mod Held
 mod Putting
 mod Ready

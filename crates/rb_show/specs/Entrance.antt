@@ -15,7 +15,7 @@ use Rattle.rb_show.specs.Wished.{IsWished, Task, TaskEnds, request_of}
 
 -- what was wrong with words that ask for this, and are shown the commands
 abbrev pub view_wrong : List (List ℕ) → Option View → List ℕ
-view_wrong words (Some (Explains name)) = misnamed_text (codes "fault or cause") (codes "rblview") names name
+view_wrong words (Some (Explains (Some name))) = misnamed_text (codes "fault or cause") (codes "rblview") names name
 view_wrong words view = misasked_text view_guides (codes "rblview") words
 
 -- So `rblview` ends that carries this out, where this is what was wrong with words that are shown the commands: there is one end with this exit

@@ -1,6 +1,10 @@
 -- A source that is ready to be traced.
 use Rattle.std.specs.Prelude.{◌≡◌, ℕ, List}
 use Rattle.rb_code.specs.Agreement.Places.{places_told}
+use Rattle.rb_code.specs.Instructions.Plain.{code}
+use Rattle.rb_conv.specs.Conversations.{memberships, opening}
+use Rattle.rb_recovery.specs.Worlds.{counts_of}
+use Rattle.rb_picture.specs.Trace.{trace_text}
 use Rattle.rb_prepare.specs.Prepared.{IsPrepared}
 use Rattle.rb_show.specs.declared.traced.Traced.{Traced}
 
@@ -8,3 +12,9 @@ use Rattle.rb_show.specs.declared.traced.Traced.{Traced}
 pub record IsTraced (source : List ℕ) (traced : Traced) : Type 0 where
   pub prepared : IsPrepared source traced.prepared
   pub places : traced.places.items ≡ places_told prepared.tree traced.prepared.code.instrs.items
+
+-- the trace of the run of its code over these turns
+abbrev pub trace_over : Traced → List ℕ → List ℕ
+trace_over traced turns =
+    let groups = opening traced.prepared.nested in
+    trace_text (code traced.prepared.code) (memberships groups) (counts_of groups) traced.places.items turns

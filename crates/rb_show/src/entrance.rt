@@ -67,7 +67,7 @@ fn carried<F: Shelf + Blamed, S: Sink + Blamed + Drop, E: Sink>(
         (E.written err.old) (E.written err.new) (E.faults err.old) (E.faults err.new) result.number result.told }
 {
     let mut slots = [Vec::new(alloc), Vec::new(alloc), Vec::new(alloc)];
-    let carried = command(alloc, wish, &mut slots, shelf, out);
+    let carried = command(alloc, &wish, &mut slots, shelf, out);
     let said = End {
         unread: shelf.reason(),
         unwritten: carried.sink.reason(),

@@ -1,5 +1,5 @@
 //! A run that is written turn by turn: its trace, by itself or in a page.
-ghost use Rattle.std.specs.Prelude.{◌≡◌, ◌≤◌, ◌<◌, ◌++◌, ℕ, false, List, Option, length, option_map, Ok, Err, MatchResult};
+ghost use Rattle.std.specs.Prelude.{◌≡◌, ◌≤◌, ◌<◌, ◌++◌, ℕ, false, List, Option, length, option_map, Err};
 ghost use Rattle.rb_outside.specs.Outside.{Faults};
 ghost use Rattle.rb_base.specs.declared.limits.TheConstants.{MOST_TURNS};
 ghost use Rattle.rb_code.specs.Instructions.Plain.{code as plain};
@@ -10,11 +10,11 @@ ghost use Rattle.rb_recovery.specs.Worlds.{counts_of};
 ghost use Rattle.rb_outside.specs.Puts.{Puts};
 ghost use Rattle.rb_page.specs.Escape.{escaped};
 ghost use Rattle.rb_page.specs.Page.{page_text};
-ghost use Rattle.rb_picture.specs.Trace.{before_opening, trace_text};
+ghost use Rattle.rb_picture.specs.Trace.{before_opening};
 ghost use Rattle.rb_run.specs.Running.{NamesFit};
 ghost use Rattle.rb_turns.specs.Written.{PutsOrMemory};
 ghost use Rattle.rb_show.specs.Drawing.{EndsDrawn, text_in};
-ghost use Rattle.rb_show.specs.Traced.{IsTraced};
+ghost use Rattle.rb_show.specs.Traced.{IsTraced, trace_over};
 
 use crate::traced::Traced;
 use rb_base::{MOST_BYTES, Steps};
@@ -83,9 +83,7 @@ fn draw_turns<S: Sink + Drop, L: Ledger>(
     requires fit { NamesFit (plain traced.now.prepared.code) traced.now.prepared.code.names }
     requires whole { schedule.left ≡ schedule.all }
     requires turns { length schedule.left ≤ MOST_TURNS }
-    ensures { PutsOrMemory (text_in (option_map (λ p. p.now) page.entry) source.now text.now
-        (trace_text (plain traced.now.prepared.code) (memberships (opening traced.now.prepared.nested)) (counts_of (opening traced.now.prepared.nested))
-        traced.now.places.items schedule.entry.all))
+    ensures { PutsOrMemory (text_in (option_map (λ p. p.now) page.entry) source.now text.now (trace_over traced.now schedule.entry.all))
         (S.written out) (S.written result.sink) (S.faults out) (S.faults result.sink) result.ended }
 {
     let mut steps = Steps::<L>::start(blank);
@@ -95,23 +93,17 @@ fn draw_turns<S: Sink + Drop, L: Ledger>(
         return short_of_memory(out);
     };
     match Machine::load(alloc, &prepared.code, &prepared.nested, turns, &mut steps) {
-        Ok(mut machine) => {
-            let (sink, written) = put_in(
-                &mut machine,
-                page,
-                source,
-                text,
-                traced,
-                &mut was,
-                schedule,
-                out,
-                &mut steps,
-            );
-            Written {
-                sink,
-                ended: unwritten_after(written),
-            }
-        }
+        Ok(mut machine) => written_after(put_in(
+            &mut machine,
+            page,
+            source,
+            text,
+            traced,
+            &mut was,
+            schedule,
+            out,
+            &mut steps,
+        )),
         Err(_) => short_of_memory(out),
     }
 }
@@ -127,13 +119,16 @@ fn short_of_memory<S: Sink + Drop>(sink: S) -> Written<S, Why>
 }
 
 // How a command ends after its text was put.
-fn unwritten_after(put: Result<(), Failed>) -> Result<(), Unwritten<Why>>
-    ensures { MatchResult put (λ done. result ≡ Ok done) (λ _. result ≡ Err Unwritten.Fault) }
+fn written_after<S: Sink + Drop>(put: (S, Result<(), Failed>)) -> Written<S, Why>
+    ensures { (bytes : List ℕ) (start : Option (List ℕ)) (faults : Faults) → Puts bytes start (S.written put.0) faults (S.faults put.0) put.1
+        → PutsOrMemory bytes start (S.written result.sink) faults (S.faults result.sink) result.ended }
 {
-    match put {
+    let (sink, written) = put;
+    let ended = match written {
         Ok(()) => Ok(()),
         Err(_) => Err(Unwritten::Fault),
-    }
+    };
+    Written { sink, ended }
 }
 
 // Writes the trace of a run from its start, in a page if there is one.
@@ -153,9 +148,7 @@ fn put_in<S: Sink, L: Ledger>(
     requires before { was.old ≡ before_opening (plain traced.now.prepared.code) (memberships (opening traced.now.prepared.nested)) }
     requires whole { schedule.left ≡ schedule.all }
     requires turns { length schedule.left ≤ machine.old.most }
-    ensures { Puts (text_in (option_map (λ p. p.now) page.entry) source.now text.now
-        (trace_text (plain traced.now.prepared.code) (memberships (opening traced.now.prepared.nested)) (counts_of (opening traced.now.prepared.nested))
-        traced.now.places.items schedule.entry.all))
+    ensures { Puts (text_in (option_map (λ p. p.now) page.entry) source.now text.now (trace_over traced.now schedule.entry.all))
         (S.written out) (S.written result.0) (S.faults out) (S.faults result.0) result.1 }
 {
     match page {
@@ -197,9 +190,7 @@ fn put_page<S: Sink, L: Ledger>(
     requires before { was.old ≡ before_opening (plain traced.now.prepared.code) (memberships (opening traced.now.prepared.nested)) }
     requires whole { schedule.left ≡ schedule.all }
     requires turns { length schedule.left ≤ machine.old.most }
-    ensures { Puts (page_text page.now source.now text.now
-        (trace_text (plain traced.now.prepared.code) (memberships (opening traced.now.prepared.nested)) (counts_of (opening traced.now.prepared.nested))
-        traced.now.places.items schedule.entry.all))
+    ensures { Puts (page_text page.now source.now text.now (trace_over traced.now schedule.entry.all))
         (S.written out) (S.written result.0) (S.faults out) (S.faults result.0) result.1 }
 {
     let page = Page::cut(page);
@@ -237,9 +228,7 @@ fn put_escaped_trace<S: Sink, L: Ledger>(
     requires before { was.old ≡ before_opening (plain traced.now.prepared.code) (memberships (opening traced.now.prepared.nested)) }
     requires whole { schedule.left ≡ schedule.all }
     requires turns { length schedule.left ≤ machine.old.most }
-    ensures { Puts (escaped
-        (trace_text (plain traced.now.prepared.code) (memberships (opening traced.now.prepared.nested)) (counts_of (opening traced.now.prepared.nested))
-        traced.now.places.items schedule.entry.all))
+    ensures { Puts (escaped (trace_over traced.now schedule.entry.all))
         (S.written out) (S.written result.0) (S.faults out) (S.faults result.0) result.1 }
 {
     let mut escaped = Escaped::before(out);
