@@ -6,7 +6,7 @@ FILES = {"source": SOURCE, "schedule": "p 2\n", "record": "1 p\n2 p\n", "session
          "page": "<p>@SOURCE@ @SCHEDULE@ @TRACE@</p>\n"}
 COMMANDS = ["run source schedule", "survive source schedule", "plain source record", "check source", "code source", "compile source", "load image schedule",
             "session source schedule session", "domino history", "stuck source schedule", "trial 0", "trace source schedule", "page page source schedule", "explain S1",
-            "explore source"]
+            "explain", "explore source"]
 
 
 def commands():

@@ -14,7 +14,7 @@ from concurrent.futures import ThreadPoolExecutor
 ROOT = os.path.dirname(os.path.dirname(os.path.abspath(__file__)))
 HERE = os.path.dirname(os.path.abspath(__file__))
 # The commands that are those of `rblview`.
-VIEWS = ("trace", "page", "explain", "explore")
+VIEWS = ("trace", "page", "explain", "explore", "faults")
 # The most bytes of a file, and of an image.
 MOST = 1_048_576
 MOST_OF_IMAGE = 16_777_216

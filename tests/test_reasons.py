@@ -4,7 +4,7 @@ import os
 import re
 
 from .explained import explained, files_of, words_over
-from .shared import Cases, answer_over, read
+from .shared import Cases, answer, answer_over, read
 from .told import EXPLAINED, explained_place, explanation, words_of_all
 
 
@@ -29,6 +29,12 @@ def fault_of(word):
     return f"shows {match['shows']!r}, but rbl writes {lines[:4]}"
 
 
+def misnamed(name, word):
+    """What is wrong with the text of a name that is this word but for the case of its letters, or nothing."""
+    real = explanation(name)
+    return None if real == read(explained_place(word)) else f"tells {real!r}"
+
+
 class Reasons(Cases):
     def test_examples(self):
         self.each([(word, word) for word in words_of_all()], fault_of)
@@ -36,6 +42,15 @@ class Reasons(Cases):
     def test_texts(self):
         """Each text is the one that is stored, so that no sentence of it changes unseen."""
         self.each([(word, word) for word in words_of_all()], other_text)
+
+    def test_letters(self):
+        """A name may have small letters for large ones, and large ones for small."""
+        self.each([(name, name, word) for word in words_of_all() for name in (word.lower(), word.upper())], misnamed)
+
+    def test_names(self):
+        """Without a name the first lines of all texts are told."""
+        lines = [read(explained_place(word)).split(b"\n")[0] + b"\n" for word in words_of_all()]
+        self.assertEqual(answer(["explain"]).out, b"".join(lines))
 
     def test_files(self):
         """Each file is that of a fault or a cause."""

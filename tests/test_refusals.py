@@ -34,7 +34,7 @@ SOURCES = {
 COMMANDS = ["run a b", "survive a b", "plain a r", "check a", "code a", "stuck a b", "session a b c", "compile a", "load i b", "trace a b", "page page a b"]
 
 # Those that have none, and the search over all schedules, of a program with few worlds.
-ALONE = ["domino h", "trial 0", "explain N4", "explore s", "explore s 1"]
+ALONE = ["domino h", "trial 0", "explain N4", "explain", "explore s", "explore s 1", "faults s"]
 
 # Texts that are refused, by the names of the files: the reason of each takes another way.
 REFUSED = {

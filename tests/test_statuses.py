@@ -3,6 +3,7 @@
 Each command is tried with each of its files in turn: without that file, with a folder in its place, and with one that is refused.
 """
 import os
+import re
 import subprocess
 import unittest
 
@@ -20,7 +21,11 @@ REFUSED = {
     "page": ("c" * (MOST + 1), "L0", ""),
     "image": ("no image", "I1", ""),
 }
-USAGES = {"rbl": USAGE, "rblview": "usage: rblview explain NAME | trace SOURCE SCHEDULE | page PAGE SOURCE SCHEDULE | explore SOURCE [K]\n"}
+USAGES = {"rbl": USAGE, "rblview": "usage: rblview explain [NAME] | trace SOURCE SCHEDULE | page PAGE SOURCE SCHEDULE | explore SOURCE [K] "
+          "| faults SOURCE | help [NAME] | version\n"}
+# What both programs tell of their version, behind their name.
+VERSION = ("1.0.0, of rattle-kit-13f: each function is proved to meet its contract, where rt built it "
+           "(a program that was compiled without proofs says `not proved` beside this line)")
 # Words that are no command of a program, and the first line that it tells of them.
 UNKNOWN = {
     "rbl": {
@@ -35,10 +40,18 @@ UNKNOWN = {
         "run source schedule schedule": "rbl: `run` takes SOURCE and SCHEDULE, and no more",
         "check source source": "rbl: `check` takes SOURCE, and no more",
         "check --source": "rbl: `--source` is no word for a command",
-        "--version": "rbl: `--version` is no word for a command",
+        "--version": "rbl " + VERSION,
+        "version": "rbl " + VERSION,
+        "--version source": "rbl: `--version` is no word for a command",
+        "version source": "rbl: there is no command `version`; did you mean `session`?",
         "trial x": "rbl: `trial` takes a NUMBER of at most twenty digits and 64 bits",
         "--help": "  run SOURCE SCHEDULE: what a program prints, turn by turn over a schedule",
         "-h trial": "  trial NUMBER: a run of a program that is made from a number",
+        "trial --help": "  trial NUMBER: a run of a program that is made from a number",
+        "trial -h": "  trial NUMBER: a run of a program that is made from a number",
+        "trial help": "rbl: `trial` takes a NUMBER of at most twenty digits and 64 bits",
+        "trial --help 7": "rbl: `--help` is no word for a command",
+        "rum --help": "rbl: there is no command `rum`; did you mean `run`?",
         "help rum": "rbl: there is no command `rum`; did you mean `run`?",
     },
     "rblview": {
@@ -48,13 +61,21 @@ UNKNOWN = {
         "trace source": "rblview: `trace` takes SOURCE and SCHEDULE; SCHEDULE is missing",
         "trace source schedule schedule": "rblview: `trace` takes SOURCE and SCHEDULE, and no more",
         "page page source": "rblview: `page` takes PAGE, SOURCE and SCHEDULE; SCHEDULE is missing",
-        "explain": "rblview: `explain` takes NAME; NAME is missing",
+        "explain S1 S2": "rblview: `explain` takes NAME or nothing, and no more",
+        "explain --all": "rblview: `--all` is no word for a command",
         "explain Z9": "rblview: there is no fault or cause `Z9`",
         "explain overun": "rblview: there is no fault or cause `overun`; did you mean `overrun`?",
         "explore": "rblview: `explore` takes SOURCE and perhaps NUMBER; SOURCE is missing",
         "explore source one": "rblview: `explore` takes a NUMBER of at most twenty digits and 64 bits",
         "explore source 1 1": "rblview: `explore` takes SOURCE and perhaps NUMBER, and no more",
-        "--help": "  explain NAME: what a fault or a cause means",
+        "faults": "rblview: `faults` takes SOURCE; SOURCE is missing",
+        "help trase": "rblview: there is no command `trase`; did you mean `trace`?",
+        "trase --help": "rblview: there is no command `trase`; did you mean `trace`?",
+        "--help run": "rblview: there is no command `run`",
+        "help trace page": "  trace SOURCE SCHEDULE: what each turn of a run did",
+        "trace --help source": "rblview: `--help` is no word for a command",
+        "version source": "rblview: `version` takes nothing, and no more",
+        "--version source": "rblview: `--version` is no word for a command",
     },
 }
 # Words of which one is no text.
@@ -137,11 +158,22 @@ def misunderstood(name, words, line):
         return differs(answer(words, folder, program(name)), 2, USAGES[name].encode(), f"{line}\n".encode())
 
 
+def helped(name):
+    """The help of a program: that of rbl, to which help is no command, stands on standard error."""
+    with folder_of({}) as folder:
+        real = answer(["help"], folder, program(name))
+    return (real.err if name == "rbl" else real.out).decode()
+
+
 def examples(name):
     """The lines for a shell that the help of a program shows."""
+    return [line.strip() for line in helped(name).split("\n") if line.startswith("      ")]
+
+
+def misanswered(words, out):
+    """What is wrong with what rblview answers to words for which no file is read."""
     with folder_of({}) as folder:
-        told = answer(["help"], folder, program(name)).err.decode()
-    return [line.strip() for line in told.split("\n") if line.startswith("      ")]
+        return differs(answer(words, folder, program("rblview")), 0, out.encode(), b"")
 
 
 def unrunnable(line):
@@ -193,8 +225,21 @@ class Statuses(Cases):
 
     def test_examples(self):
         """The help of each program has an example of each command, and each runs."""
-        self.assertEqual([len(examples(name)) for name in ("rbl", "rblview")], [11, 4])
+        self.assertEqual([len(examples(name)) for name in ("rbl", "rblview")], [11, 7])
         self.each([(line, line) for name in USAGES for line in examples(name)], unrunnable)
+
+    def test_help(self):
+        """rblview answers words for help: all of it, or the part of a command."""
+        whole = helped("rblview")
+        asked = [(words, whole) for words in ("help", "--help", "-h")]
+        for part in re.split(r"\n(?=  \w)", whole.removesuffix("\n")):
+            command = re.split("[ :]", part[2:])[0]
+            words = [f"help {command}", f"--help {command}", f"{command} --help", f"{command} -h"]
+            asked += [(each, f"{part}\n") for each in (words[:2] if command == "help" else words)]
+        self.each([(words, words.split(), out) for words, out in asked], misanswered)
+
+    def test_version(self):
+        self.each([(words, [words], f"rblview {VERSION}\n") for words in ("version", "--version")], misanswered)
 
     def test_no_texts(self):
         for name, lines in NO_TEXTS.items():

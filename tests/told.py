@@ -70,6 +70,23 @@ SLIPS = {
     "declared_as_a_parameter": b"process p {\n  procedure f(n, m) { var n; }\n}\n",
     "process_declared_twice": b"process p { procedure q() { } }\nprocess q { }\nprocess q { procedure q() { } }\n",
     "arguments_of_a_later_procedure": b"process two { procedure one() { call two(1); } procedure two() { } }\n",
+    "prior_in_an_alternate": b"process p {\n  var x;\n  ensure x = 1 within 9\n  by { x := prior x + 1; }\n  else error;\n}\n",
+    "prior_behind_a_block": b"process p {\n  var x;\n  ensure x = prior x within 9 by { x := 1; } else error;\n  x := prior x;\n}\n",
+    "converse_in_a_procedure": b"conversation C (p, q);\nprocess p {\n  procedure early() { }\n  procedure meet() {\n"
+                               b"    converse C ensure 1 within 9 by { } else error;\n  }\n  call meet();\n}\n"
+                               b"process q { converse C ensure 1 within 9 by { } else error; }\n",
+    "converse_in_the_inner_ensure": b"conversation C (p, q);\nconversation D (p, q);\nprocess p {\n  converse C ensure 1 within 99\n  by {\n"
+                                    b"    ensure 1 within 9 by { } else error;\n    ensure 1 within 9\n    by { if 1 {\n"
+                                    b"      converse D ensure 1 within 9 by { } else error;\n    } }\n    else error;\n  }\n  else error;\n}\n"
+                                    b"process q {\n  converse C ensure 1 within 99\n  by { converse D ensure 1 within 9 by { } else error; }\n"
+                                    b"  else error;\n}\n",
+    "member_named_twice": b"conversation B (p, q);\nconversation C (\n  q,\n  p,\n  q);\n" + b"".join(
+        b"process %c {\n  converse B ensure 1 within 9 by { } else error;\n  converse C ensure 1 within 9 by { } else error;\n}\n" % member
+        for member in b"pq"),
+    "ends_on_two_lines": b"channel b from p to q size 1;\nchannel c from p\n  to p size 1;\nprocess p { }\nprocess q { }\n",
+    "alternates_with_inner_blocks": b"conversation C (p, q);\nprocess p {\n  converse C ensure 1 within 99 by {\n"
+                                    b"    ensure 1 within 9 by { } else by { } else error;\n  } else error;\n}\n"
+                                    b"process q { converse C ensure 1 within 9 by { } else by { } else by { } else error; }\n",
     "kind_of_a_later_process": b"channel c from d to p size 1;\nchannel d from p to q size 1;\nprocess p { }\nprocess q { }\n",
 }
 
